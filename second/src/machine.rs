@@ -220,8 +220,9 @@ pub fn rank(table: &Table, state: &State) -> Ranked {
         let left = u64::from(deadline.wrapping_sub(state.clock));
         let remaining = sixteen(&state.remaining, i);
         let held = held_back(&table.tasks[i], remaining);
-        for h in 0..usize::from(table.tasks[i].v) {
-            if remaining[h] > 0 && held >> h & 1 == 0 {
+        let used = &remaining[..usize::from(table.tasks[i].v)];
+        for (h, rest) in used.iter().enumerate() {
+            if *rest > 0 && held >> h & 1 == 0 {
                 entries[count] = left << 16 | (i as u64) << 8 | h as u64;
                 count += 1;
             }

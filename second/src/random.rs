@@ -44,7 +44,7 @@ impl Random {
         Random { at: seed }
     }
 
-    pub fn next(&mut self) -> u64 {
+    pub fn word(&mut self) -> u64 {
         self.at = self.at.wrapping_add(0x9E37_79B9_7F4A_7C15);
         let mut z = self.at;
         z = (z ^ z >> 30).wrapping_mul(0xBF58_476D_1CE4_E5B9);
@@ -54,7 +54,7 @@ impl Random {
 
     /// From 0 to below `count`, which is above 0.
     pub fn below(&mut self, count: usize) -> usize {
-        (self.next() % count as u64) as usize
+        (self.word() % count as u64) as usize
     }
 
     /// Below `few` half of the time, else below `all`.
@@ -65,11 +65,11 @@ impl Random {
 
     /// From `low` to `high`, both included.
     pub fn range(&mut self, low: u32, high: u32) -> u32 {
-        low + (self.next() % (u64::from(high - low) + 1)) as u32
+        low + (self.word() % (u64::from(high - low) + 1)) as u32
     }
 
     pub fn coin(&mut self) -> bool {
-        self.next() & 1 == 1
+        self.word() & 1 == 1
     }
 
     /// True one time in `count`.
@@ -82,13 +82,13 @@ impl Random {
     }
 
     pub fn byte(&mut self) -> u8 {
-        self.next() as u8
+        self.word() as u8
     }
 
     /// Any 32-bit number; those at the boundaries often.
     pub fn number(&mut self) -> u32 {
         match self.below(4) {
-            0 => self.next() as u32,
+            0 => self.word() as u32,
             1 => self.range(0, 20),
             _ => self.pick(&BOUNDARY),
         }

@@ -11,7 +11,7 @@ pub fn releases(r: &mut Random, table: &Table, state: &State) -> u16 {
     match r.below(4) {
         0 => ready,
         1 => 0,
-        _ => ready & r.next() as u16,
+        _ => ready & r.word() as u16,
     }
 }
 

@@ -180,7 +180,7 @@ pub fn damaged_table(r: &mut Random, base: &Table, changes: usize) -> Table {
             2 => task.v = r.number() as u8,
             3 | 4 => task.deadline = r.number(),
             5 | 6 => task.period = r.number(),
-            7 => task.succ[h] = r.next() as u16,
+            7 => task.succ[h] = r.word() as u16,
             8 => task.succ[h] ^= 1 << r.below(ENTRIES),
             9 => task.succ[h] ^= 1 << r.below(v),
             10 => task.succ[h] = first(r.below(ENTRIES + 1)),
@@ -199,7 +199,7 @@ pub fn wild_table(r: &mut Random) -> Table {
         task.v = r.number() as u8;
         task.deadline = r.number();
         task.period = r.number();
-        task.succ = std::array::from_fn(|_| r.next() as u16);
+        task.succ = std::array::from_fn(|_| r.word() as u16);
     }
     table.costs = std::array::from_fn(|_| r.number());
     table
