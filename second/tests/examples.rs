@@ -8,7 +8,13 @@ fn every_example() {
     let lines = examples(&OWN);
     assert_eq!(lines.len(), 13);
     for line in lines {
-        assert!(line.ok(), "{} gave {}, not {}", line.name, line.got, line.says);
+        assert!(
+            line.ok(),
+            "{} gave {}, not {}",
+            line.name,
+            line.got,
+            line.says
+        );
     }
 }
 

@@ -92,7 +92,9 @@ fn order_of_the_tests() {
     let longer = [&with(&[(48, &[0])])[..], &[1]].concat();
     gives(&longer, 4, 48);
     // A place in a second task's cycle is its own mark.
-    let two = [0x54, 0x4B, 2, 2, 6, 0, 0, 0, 6, 0, 0, 0, 2, 0, 0, 0, 2, 0, 0, 0];
+    let two = [
+        0x54, 0x4B, 2, 2, 6, 0, 0, 0, 6, 0, 0, 0, 2, 0, 0, 0, 2, 0, 0, 0,
+    ];
     gives(&[&TABLE_A[..32], &two, &[0, 1, 1, 0]].concat(), 7, 32);
 }
 
