@@ -16,7 +16,6 @@ use Rattle.graph.proofs.Facts.{both-true}
 use Rattle.table.specs.Numbers.{number}
 use Rattle.table.specs.Reading.{onward, whenRead, field, markAt, ranged, byteAt, value4, ticksAt, notUnder, periodAt, edgeOk, edgeAt}
 
--- ---- fields: each is a value that keeps its rules, or a refusal
 unfoldable pub Bad : Outcome → Type 0
 Bad o = o ≡ Read → ⊥
 
@@ -97,19 +96,11 @@ edge-view v low s at h =
 
 -- ---- what follows a field, and a part, where all went well
 module _ {X : Type 0} (out : X → Outcome) (bad : Outcome → X) (same : (o : Outcome) → out (bad o) ≡ o) where
-  pub on-value : {P : ℕ → Type 0} (f : Field) → View f P → (go : ℕ → X) (r : X) → out r ≡ Read → r ≡ onward f bad go
-      → (x : ℕ) × P x × (r ≡ go x)
+  pub on-field : {P : ℕ → Type 0} (f : Field) → View f P → (go : ℕ → X) (r : X) → out r ≡ Read → r ≡ onward f bad go
+      → (x : ℕ) × (f ≡ Got x) × P x × (r ≡ go x)
   unfolding Bad
-  on-value f (value x e q) go r h k = (x, q, k ∙ ap (λ (z : Field). onward z bad go) e)
-  on-value f (halt o e q) go r h k =
-      absurd (q (sym (same o) ∙ ap out (sym (k ∙ ap (λ (z : Field). onward z bad go) e)) ∙ h))
-
-  -- the same, with the field
-  pub on-got : {P : ℕ → Type 0} (f : Field) → View f P → (go : ℕ → X) (r : X) → out r ≡ Read → r ≡ onward f bad go
-      → (x : ℕ) × (f ≡ Got x) × (r ≡ go x)
-  unfolding Bad
-  on-got f (value x e q) go r h k = (x, e, k ∙ ap (λ (z : Field). onward z bad go) e)
-  on-got f (halt o e q) go r h k =
+  on-field f (value x e q) go r h k = (x, e, q, k ∙ ap (λ (z : Field). onward z bad go) e)
+  on-field f (halt o e q) go r h k =
       absurd (q (sym (same o) ∙ ap out (sym (k ∙ ap (λ (z : Field). onward z bad go) e)) ∙ h))
 
   pub went : (o : Outcome) (go : Unit {0} → X) (r : X) → out r ≡ Read → r ≡ whenRead o bad go → (o ≡ Read) × (r ≡ go tt)

@@ -20,7 +20,7 @@ use Rattle.graph.proofs.Facts.{first-in, tail-in, below-pass, below-all}
 use Rattle.table.specs.Memory.{noSucc, noCosts, task, vertices, D, T, succ, edgeIn, cost}
 use Rattle.table.specs.Reading.{field, notUnder, periodAt, edgeOk, edgeAt, costsAt, addEdge, edgesAt, partsAt, taskAt}
 use Rattle.table.specs.Writing.{bytes4, edgeKeys, edgeBytes, encodeTask}
-use Rattle.table.specs.Good.{GoodTable, Shaped}
+use Rattle.table.specs.Good.{GoodTable, Typed}
 use Rattle.table.proofs.Bits.{no-edge}
 use Rattle.table.proofs.Ascending.{Asc, keys-asc}
 use Rattle.table.proofs.Successors.{addAll, added, same-rows, no-rows}
@@ -113,7 +113,7 @@ unfolding edgeBytes
 edges-long [] = refl
 edges-long (k ∷ ks) = let h = edges-long ks in omega arith
 
-module _ (t : Table) (good : GoodTable t) (shaped : Shaped t) where
+module _ (t : Table) (good : GoodTable t) (typed : Typed t) where
   keys-asc-of : (i : ℕ) → Asc 0 (16 * vertices t i) (edgeKeys t i)
   unfolding edgeKeys thoseBelow row
   keys-asc-of i = keys-asc _ (16 * vertices t i) 0 (16 * vertices t i) (omega arith)
@@ -147,8 +147,9 @@ module _ (t : Table) (good : GoodTable t) (shaped : Shaped t) where
   same-succ : (i : ℕ) → i < t .n → addAll noSucc (edgeKeys t i) ≡ succ t i
   same-succ i b =
       let v = good .each i b .v-high in
+      let n = good .n-high in
       let a = added noSucc (edgeKeys t i) no-rows (λ k e. let o = key-edge i k e .0 in omega arith) in
-      same-rows (addAll noSucc (edgeKeys t i)) (succ t i) (a .rows) (record { many = shaped .rows i b; small = shaped .small i b })
+      same-rows (addAll noSucc (edgeKeys t i)) (succ t i) (a .rows) (record { many = typed .rows i (omega arith); small = typed .small i })
       (λ u w hu hw e.
       let q = slot u w hw in
       ⊎-elim (λ z. absurd (no-edge ((16 * u + w) / 16) ((16 * u + w) % 16) z)) (λ z. come i u w hw (key-edge i (16 * u + w) z .1)) (a .edges (16 * u + w) (rw (q .0, q .1) e)))
@@ -209,7 +210,7 @@ module _ (t : Table) (good : GoodTable t) (shaped : Shaped t) where
         rw (
           read-mark 0x4B s at _ b₀,
           read-byte 1 16 s (at + 2) v _ (g .v-low) (g .v-high) b₂,
-          read-byte 0 120 s (at + 3) (length ks) _ (omega arith) (shaped .e-high i b) b₃,
+          read-byte 0 120 s (at + 3) (length ks) _ (omega arith) (g .e-high) b₃,
           read-ticks s (at + 4) (D t i) _ (g .D-low) (g .D-high) b₄,
           read-ticks s (at + 8) (T t i) _ (g .T-low) (g .T-high) b₈,
           le-leb (D t i) (T t i) (g .D-T),
