@@ -1,23 +1,23 @@
 -- The successors to which edges were added, and that rows of sixteen bits are known by their edges.
-use mathlib.Core.Path.{_≡_, refl, sym, ap, _∙_}
+use mathlib.Core.Path.{_≡_, refl, sym, ap, subst, _∙_}
 use mathlib.Core.Logic.{_⊎_, inl, inr, ⊎-elim}
 use mathlib.Core.Bool.{true}
 use mathlib.Core.List.{List, [], _∷_}
-use Prim.Native.Nat.{ℕ, zero, suc, _+_, _/_, _%_, _^_, _<_}
+use Prim.Native.Nat.{ℕ, zero, suc, _+_, _/_, _%_, _^_, _≤_, _<_}
 use native.Mathlib.Omega.{arith}
-use native.Mathlib.Nat.{div-one}
-use native.Mathlib.Decide.{ℕ-discrete}
+use native.Mathlib.Nat.{div-one, div-eq-of-lt}
+use native.Mathlib.Decide.{ℕ-discrete, decLt}
 use lib.ListN.{length, getD, length-set}
 use lib.Seq.{ext-getD, getD-set-same, getD-set-other}
 use lib.Bits.{bitOr, or-lt}
-use lib.Pow.{pow-lt, pow-pos, shr-shr}
+use lib.Pow.{pow-lt, pow-mono, pow-pos, shr-shr}
 use borrow.Author.Tests.{eqb-true, eq-eqb}
 use Rattle.graph.specs.Words.{bit, isIn}
 use Rattle.graph.specs.Graph.{edge}
-use Rattle.graph.proofs.Facts.{clash, first-in, other-in, tail-in}
+use Rattle.graph.proofs.Facts.{clash, first-in, other-in, tail-in, past-end}
 use Rattle.table.specs.Memory.{noSucc}
 use Rattle.table.specs.Reading.{addEdge}
-use Rattle.table.proofs.Bits.{digit, edge-added, zeros-at, edge-new, edge-old}
+use Rattle.table.proofs.Bits.{digit, bit-zero, edge-added, zeros-at, edge-new, edge-old}
 use Rattle.table.proofs.Ascending.{empty}
 
 unfoldable pub addAll : List ℕ → List ℕ → List ℕ
@@ -95,6 +95,27 @@ digit-by a b j f g = go (ℕ-discrete (digit a j) 1) (ℕ-discrete (digit b j) 1
     go (yes x) d = x ∙ sym (eqb-true (digit b j) 1 (f (eq-eqb (digit a j) 1 x)))
     go (no x) (yes y) = eqb-true (digit a j) 1 (g (eq-eqb (digit b j) 1 y)) ∙ sym y
     go (no x) (no y) = omega arith
+
+-- a number below 2 ^ n has no bit from n on
+bit-under : (n x j : ℕ) → x < 2 ^ n → bit x j ≡ true → j < n
+unfolding bit
+bit-under n x j h e = elim (decLt j n) [
+  | yes l ↦ l
+  | no l ↦
+      let p : 2 ^ n ≤ 2 ^ j = pow-mono (omega arith) in
+      let z : x / 2 ^ j ≡ 0 = div-eq-of-lt (omega arith) in
+      let q = eqb-true (x / 2 ^ j % 2) 1 e in
+      absurd (omega arith)
+]
+
+-- both ends of an edge are below sixteen
+pub edge-under : (l : List ℕ) → Rows l → (u w : ℕ) → edge l u w ≡ true → (u < 16) × (w < 16)
+unfolding edge
+edge-under l g u w e = (under (decLt u 16), bit-under 16 (getD l u 0) w (g .small u) e)
+  where
+    under : Dec (u < 16) → u < 16
+    under (yes h) = h
+    under (no h) = let n = g .many in absurd (bit-zero w (subst (λ (x : ℕ). bit x w ≡ true) (past-end l u 0 (omega arith)) e))
 
 pub same-rows : (a b : List ℕ) → Rows a → Rows b → ((u w : ℕ) → u < 16 → w < 16 → edge a u w ≡ true → edge b u w ≡ true)
     → ((u w : ℕ) → u < 16 → w < 16 → edge b u w ≡ true → edge a u w ≡ true) → a ≡ b

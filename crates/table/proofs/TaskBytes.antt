@@ -16,8 +16,7 @@ use Rattle.graph.specs.Graph.{edge}
 use Rattle.table.specs.Memory.{noSucc, noCosts, task, succ}
 use Rattle.table.specs.Reading.{ticksAt, costsAt, edgesAt, taskAt}
 use Rattle.table.specs.Writing.{bytes4, edgeBytes}
-use Rattle.table.proofs.Bits.{no-edge}
-use Rattle.table.proofs.Successors.{no-rows}
+use Rattle.table.proofs.Successors.{addAll}
 use Rattle.table.proofs.Fields.{ticks-view, on-field}
 use Rattle.table.proofs.Went.{task-went}
 use Rattle.table.proofs.FieldBytes.{Bytes, at-sum, mark-bytes, byte-bytes, ticks-bytes, period-is}
@@ -75,8 +74,10 @@ task-bytes s b at r h q =
     let v16 = w .v-range .1 in
     let c : CostsRead = costsAt s v (at + 12) 0 noCosts in
     let g : EdgesRead = edgesAt v s e (at + 12 + 4 * v) 0 noSucc in
-    let ea = edges-are v v16 s e (at + 12 + 4 * v) 0 noSucc no-rows (λ x y z. absurd (no-edge x y z)) g (w .edges-read) refl in
-    let ka = keys-are v e s (at + 12 + 4 * v) (g .succ) ea in
+    let ea = edges-are v v16 s e (at + 12 + 4 * v) 0 noSucc g (w .edges-read) refl in
+    let ka = keys-are v v16 (ea .ks) (ea .ends) (ea .asc) in
+    let mine : r .task ≡ record { v = v; d = d; t = t; succ = addAll noSucc (ea .ks) } =
+    w .task-is ∙ ap (λ (z : List ℕ). record { v = v; d = d; t = t; succ = z }) (ea .new-is) in
     let b₁ = mark-bytes 0x4B s at (w .x) (w .mark-is) in
     let b₂ = byte-bytes 1 16 s (at + 2) v (w .v-is) ∙ ap (λ (z : List ℕ). v ∷ z) (at-sum s (at + 2 + 1) (at + 3) (omega arith)) in
     let b₃ = byte-bytes 0 120 s (at + 3) e (w .e-is) ∙ ap (λ (z : List ℕ). e ∷ z) (at-sum s (at + 3 + 1) (at + 4) (omega arith)) in
@@ -85,8 +86,8 @@ task-bytes s b at r h q =
     let b₆ = costs-bytes s b v (at + 12) 0 noCosts (omega arith) c (w .costs-read) refl in
     let b₇ = ea .bytes ∙ ap (λ (x : List ℕ). edgeBytes x ++ drop (at + 12 + 4 * v + 2 * e) s) (sym ka) in
     let nx : ℕ = at + 12 + 4 * v + 2 * e in
-    join-task s at v e d t (joinFrom v 0 (λ u. bytes4 (getD (c .costs) u 0))) (thoseBelow (16 * v) (λ x. edge (g .succ) (x / 16) (x % 16)))
+    join-task s at v e d t (joinFrom v 0 (λ u. bytes4 (getD (c .costs) u 0))) (thoseBelow (16 * v) (λ x. edge (addAll noSucc (ea .ks)) (x / 16) (x % 16)))
     b₁ b₂ b₃ b₄ b₅ b₆ b₇ (ap length ka ∙ ea .many)
-    ∙ ap (λ (a : Task). body (a .v) (a .d) (a .t) (λ u. getD (c .costs) u 0) (keysOf a) ++ drop nx s) (sym (w .task-is))
+    ∙ ap (λ (a : Task). body (a .v) (a .d) (a .t) (λ u. getD (c .costs) u 0) (keysOf a) ++ drop nx s) (sym mine)
     ∙ ap (λ (z : List ℕ). body (r .task .v) (r .task .d) (r .task .t) (λ u. getD z u 0) (keysOf (r .task)) ++ drop nx s) (sym (w .costs-are))
     ∙ ap (λ (z : ℕ). body (r .task .v) (r .task .d) (r .task .t) (λ u. getD (r .costs) u 0) (keysOf (r .task)) ++ drop z s) (sym (w .next-is))
