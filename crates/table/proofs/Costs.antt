@@ -1,15 +1,15 @@
 -- "costs lie in one row of 256 numbers, sixteen a task": the row after a task's own sixteen costs were put into it.
-use mathlib.Core.Path.{_≡_, refl, sym, ap, _∙_}
+use mathlib.Core.Path.{_≡_, sym, ap, _∙_}
 use mathlib.Core.Bool.{Bool}
 use mathlib.Core.List.{List}
-use Prim.Native.Nat.{ℕ, _+_, _*_, _/_, _%_, _≤_, _<_}
+use Prim.Native.Nat.{ℕ, _+_, _*_, _/_, _%_, _<_}
 use native.Mathlib.Omega.{arith}
 use native.Mathlib.Decide.{decLt}
 use lib.ListN.{length, getD}
 use lib.Dec.{eqb}
 use borrow.Author.Tests.{eq-eqb, ne-eqb}
-use Rattle.graph.specs.Words.{pick, row}
-use Rattle.graph.proofs.Facts.{length-row, row-at, row-past, past-end}
+use Rattle.graph.specs.Words.{pick}
+use Rattle.graph.proofs.Facts.{length-row, row-at, past-end}
 use Rattle.table.specs.Reading.{putCosts}
 
 -- the row keeps its length
