@@ -56,7 +56,7 @@ pub running-stopped : (p : Phase) (k : ℕ) → p ≡ Running → p ≡ Stopped 
 running-stopped p k e q = let z : _≡_ {A = ℕ} 0 1 = cc in omega arith
 
 -- ---- states whose numbers are in range
-zeros-range : (c : ℕ) (p : Phase) → c < 2 ^ 32 → InRange (zeros c p)
+pub zeros-range : (c : ℕ) (p : Phase) → c < 2 ^ 32 → InRange (zeros c p)
 unfolding zeros
 zeros-range c p h = record { clock = h; deadlines = λ i b e. absurd (clash e (zeros-live c p i)) }
 
