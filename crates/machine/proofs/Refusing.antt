@@ -5,10 +5,8 @@ use mathlib.Core.Bool.{Bool, true, false, _&&_}
 use mathlib.Core.List.{List}
 use Prim.Native.Nat.{ℕ, _≤_, _<_}
 use native.Mathlib.Omega.{arith}
-use lib.Dec.{ltb}
-use borrow.Author.Tests.{le-ltb}
 use Rattle.graph.specs.Words.{pick, bit, all, row, lowestOr}
-use Rattle.graph.proofs.Facts.{clash}
+use Rattle.graph.proofs.Facts.{clash, off-when}
 use Rattle.table.specs.declared.Outcome.{Outcome}
 use Rattle.table.specs.declared.Outcome.the-variants.{Read, Short, Mark, Range, Ticks, Order, Edge, Cycle, Extra}
 use Rattle.table.specs.declared.Table.{Table}
@@ -21,8 +19,9 @@ use Rattle.machine.specs.declared.Opened.{Opened}
 use Rattle.machine.specs.declared.Ticked.{Ticked}
 use Rattle.machine.specs.States.{zeros, unopened, openRead, opening}
 use Rattle.machine.specs.Steps.{missed}
-use Rattle.machine.specs.Fitting.{zeroTaskIn, fitsPhase, fits}
+use Rattle.machine.specs.Fitting.{fits}
 use Rattle.machine.specs.Ticking.{nobody, ticked, refuse, whenRunning, tickOn, tickRead, tickBy}
+use Rattle.machine.proofs.Clauses.{stopped-below}
 use Rattle.machine.proofs.Lowest.{Lowest, None}
 use Rattle.machine.proofs.Cases.{beyond, tooSoon, afterEnds, Admitted, Case, unfit, halted, no-task, early, misses, goes-on, cases}
 
@@ -198,5 +197,5 @@ opening-refused s clock h = refusal-stops (read s .outcome) h _ _
 
 -- that state fits no table of the format, whose n is at most 16
 pub unopened-unfit : (t : Table) → t .n ≤ 16 → (c : ℕ) → fits t (zeros c (Stopped 255)) ≡ false
-unfolding fits fitsPhase zeros
-unopened-unfit t h c = rw (le-ltb 255 (t .n) (omega arith)) refl
+unfolding zeros
+unopened-unfit t h c = off-when (fits t (zeros c (Stopped 255))) (λ e. let b = stopped-below t (zeros c (Stopped 255)) e 255 refl in omega arith)
