@@ -8,7 +8,7 @@ use native.Mathlib.Omega.{arith}
 use native.Mathlib.Nat.{mul-suc, mul-add, mul-comm, mul-le-mul, mul-le-mul-left, mul-le-mul-right}
 use native.Mathlib.Decide.{decLe}
 use lib.Dec.{T, ltb, leb, le→leb}
-use lib.IntN.{ℤ, pos, negsuc, negℤ, _-ℤ_}
+use lib.IntN.{ℤ, pos, negsuc, negℤ, _+ℤ_, _-ℤ_, -ℤ-+ℤ-cancel}
 use lib.Signed.{ltZ, leZ, _≤ℤ_, _<ℤ_}
 use borrow.Author.Tests.{ltb-true, ltb-false, lt-ltb, le-ltb}
 use Rattle.table.specs.declared.Table.{Table}
@@ -36,6 +36,20 @@ minus-high a (suc b) h k = record { le = go (ltb a (suc b)) refl }
     go : (c : Bool) → ltb a (suc b) ≡ c → T (leZ (cond c (negsuc (suc b - suc a)) (pos (a - suc b))) (pos h))
     go true e = tt
     go false e = le→leb (a - suc b) h (omega arith)
+
+-- a difference that is not negative
+pub not-negative : (a b : ℕ) → pos 0 ≤ℤ (pos a -ℤ pos b) → b ≤ a
+not-negative a zero h = omega arith
+not-negative a (suc b) h = go (ltb a (suc b)) refl (h .le)
+  where
+    go : (c : Bool) → ltb a (suc b) ≡ c → T (leZ (pos 0) (cond c (negsuc (suc b - suc a)) (pos (a - suc b)))) → suc b ≤ a
+    go true e h = absurd h
+    go false e h = ltb-false a (suc b) e
+
+-- ---- THE MARGIN with what it was lessened by is m times D
+pub margin-is : (t : Table) (k : ℕ) → margin t k +ℤ pos ((t .m - 1) * len t k + due t k) ≡ pos (t .m * D t k)
+unfolding margin
+margin-is t k = -ℤ-+ℤ-cancel (pos (t .m * D t k)) (pos ((t .m - 1) * len t k + due t k))
 
 -- ---- the same bounds in natural numbers
 module _ (t : Table) (good : GoodTable t) (k : ℕ) (b : k < t .n) where

@@ -12,7 +12,7 @@ use lib.IntN.{ℤ, pos, negsuc}
 use lib.Signed.{ltZ, leZ, _≤ℤ_, _<ℤ_}
 use borrow.Author.Tests.{le-leb, leb-true, leb-false, lt-ltb, ltb-true, ltb-false}
 use Rattle.graph.specs.Words.{thoseBelow, lowest, isIn, firstOr, lowestOr}
-use Rattle.graph.proofs.Facts.{clash, lowest-is, lowestOr-none, below-all}
+use Rattle.graph.proofs.Facts.{clash, lowest-is, below-all}
 
 -- ---- a test of two signed numbers, and the order that it decides
 pub le-yes : (a b : ℤ) → leZ a b ≡ true → a ≤ℤ b
@@ -92,10 +92,3 @@ module _ {ℓ} {X : Type ℓ} (n : ℕ) (p : ℕ → Bool) (f : ℕ → X) (othe
       go : (l : List ℕ) → thoseBelow n p ≡ l → firstOr l f other ≡ f y
       go [] e = absurd (clash (sym (ap (isIn y) e) ∙ below-all n p y (h .0) (h .1)) refl)
       go (k ∷ ks) e = ap f (sym (ap (λ (l : List ℕ). getD l 0 0) e) ∙ lowest-is 0 n p y (h .0) (h .1) (h .2))
-
-  -- WHAT `lowestOr` MEANS, with the lowest
-  pub lowestOr-lowest : ((y : ℕ) × Lowest n p y × (lowestOr n p f other ≡ f y)) ⊎ (((j : ℕ) → j < n → p j ≡ false) × (lowestOr n p f other ≡ other))
-  lowestOr-lowest = ⊎-elim
-      (λ r. inl (r .0, r .1, lowestOr-is (r .0) (r .1)))
-      (λ h. inr (h, lowestOr-none n p f other h))
-      (search-low n p)
