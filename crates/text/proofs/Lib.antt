@@ -1,0 +1,4 @@
+-- Laws of `laid`, of digits written from the last one on, and of signed numbers read by their sign.
+pub mod Laying
+pub mod Digits
+pub mod Sign
