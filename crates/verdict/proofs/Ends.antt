@@ -3,11 +3,11 @@ use mathlib.Core.Path.{_≡_, refl}
 use mathlib.Core.List.{List, [], _∷_, _++_}
 use Prim.Native.Nat.{ℕ, zero, suc, _+_}
 use lib.IntN.{ℤ, pos}
-use Rattle.graph.specs.Words.{bit, sum, all, rowFrom, row, largest, alsoIf, those, thoseBelow, lowest, joinFrom, inOrder, firstOr, lowestOr}
-use Rattle.graph.specs.Graph.{edge, still, hasPred, sweepFrom, sweep, sweeps, total, acyclicAmong, acyclic, oneMore, longestFrom, maximum, longest}
-use Rattle.table.specs.Memory.{noSucc, zeroTask, noTasks, noRow, noTable, noTask, task, vertices, D, T, succ, edgeIn, cost}
+use Rattle.graph.specs.Words.{bit, sum, all, rowFrom, row, largest, alsoIf, those, thoseBelow, lowest, anyOf, isNone, joinFrom, inOrder, firstOr, lowestOr}
+use Rattle.graph.specs.Graph.{edge, ledTo, sweep, sweeps, acyclicAmong, acyclic, oneMore, longestFrom, maximum, longest}
+use Rattle.table.specs.Memory.{noSucc, noCosts, zeroTask, noTasks, noRow, noTable, noTask, task, vertices, D, T, succ, edgeIn, cost}
 use Rattle.table.specs.Numbers.{number, place}
-use Rattle.table.specs.Reading.{field, markAt, ranged, byteAt, value4, ticksAt, notUnder, periodAt, edgeOk, edgeAt, costsAt, addEdge, edgesAt, badTask, partsAt, taskAt, badTable, withTask, tasksAt, tableAt, refused, ending, read}
+use Rattle.table.specs.Reading.{field, markAt, ranged, byteAt, value4, ticksAt, notUnder, periodAt, edgeOk, edgeAt, costsAt, addEdge, edgesAt, badTask, partsAt, taskAt, putCosts, badTable, withTask, tasksAt, tableAt, refused, ending, read}
 use Rattle.table.specs.Writing.{bytes4}
 use Rattle.verdict.specs.declared.Verdict.{Verdict}
 use Rattle.verdict.specs.Verdicts.{vol, len, roundedUp, due, margin, naming, verdictOn, unread, verdictRead, verdict}
@@ -27,5 +27,5 @@ unfoldable pub highFile : List ℕ
 highFile = 0x54 ∷ 0x42 ∷ 8 ∷ 1 ∷ chained 1 0 1000000 1
 
 pub ends-reached : (verdict lowFile ≡ record { number = 20; place = 0; task = 0; margin = lowEnd }) × (verdict highFile ≡ record { number = 0; place = 0; task = 0; margin = pos 7999992 })
-unfolding lowEnd bit sum all rowFrom row largest alsoIf those thoseBelow lowest joinFrom inOrder firstOr lowestOr edge still hasPred sweepFrom sweep sweeps total acyclicAmong acyclic oneMore longestFrom maximum longest noSucc zeroTask noTasks noRow noTable noTask task vertices D T succ edgeIn cost number place field markAt ranged byteAt value4 ticksAt notUnder periodAt edgeOk edgeAt costsAt addEdge edgesAt badTask partsAt taskAt badTable withTask tasksAt tableAt refused ending read bytes4 vol len roundedUp due margin naming verdictOn unread verdictRead verdict chained lowFile highFile
+unfolding lowEnd bit sum all rowFrom row largest alsoIf those thoseBelow lowest anyOf isNone joinFrom inOrder firstOr lowestOr edge ledTo sweep sweeps acyclicAmong acyclic oneMore longestFrom maximum longest noSucc noCosts zeroTask noTasks noRow noTable noTask task vertices D T succ edgeIn cost number place field markAt ranged byteAt value4 ticksAt notUnder periodAt edgeOk edgeAt costsAt addEdge edgesAt badTask partsAt taskAt putCosts badTable withTask tasksAt tableAt refused ending read bytes4 vol len roundedUp due margin naming verdictOn unread verdictRead verdict chained lowFile highFile
 ends-reached = (refl, refl)
