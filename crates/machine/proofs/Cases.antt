@@ -5,6 +5,7 @@ use mathlib.Core.Logic.{_⊎_, inl, inr, ⊎-elim}
 use mathlib.Core.Bool.{Bool, true, false, _&&_}
 use mathlib.Core.List.{List}
 use Prim.Native.Nat.{ℕ, _≤_, _<_}
+use native.Mathlib.Omega.{arith}
 use lib.Dec.{ltb, leb}
 use Rattle.graph.specs.Words.{pick, bit, lowestOr}
 use Rattle.table.specs.declared.Table.{Table}
@@ -17,6 +18,9 @@ use Rattle.machine.specs.Steps.{released, worked, ended, finished, misse
 use Rattle.machine.specs.Fitting.{fits}
 use Rattle.machine.specs.Ticking.{ticked, judged, advanceTo, advance, refuse, whenRunning, tickOn}
 use Rattle.machine.proofs.Lowest.{Lowest, None, lowest-cases}
+
+pub running-stopped : (p : Phase) (k : ℕ) → p ≡ Running → p ≡ Stopped k → ⊥
+running-stopped p k e q = let z : _≡_ {A = ℕ} 0 1 = cc in omega arith
 
 -- "a release bit at or above n"
 unfoldable pub beyond : Table → ℕ → ℕ → Bool

@@ -1,13 +1,13 @@
--- What each clause of fitting says.
+-- What each clause of fitting says, and that a task of which it holds passes it.
 use mathlib.Core.Path.{_≡_, refl, sym, ap, _∙_}
 use mathlib.Core.Bool.{Bool, true, false, _&&_, _||_, not}
 use Prim.Native.Nat.{ℕ, _+_, _-_, _≤_, _<_}
 use native.Mathlib.Omega.{arith}
 use native.Mathlib.Decide.{decLt}
 use lib.Dec.{ltb, leb, eqb}
-use borrow.Author.Tests.{lt-ltb, le-ltb, ltb-true, leb-true, eqb-true, not-true}
+use borrow.Author.Tests.{lt-ltb, le-ltb, le-leb, eq-eqb, ltb-true, leb-true, eqb-true, not-true}
 use Rattle.graph.specs.Words.{pick, all}
-use Rattle.graph.proofs.Facts.{clash, both-true, all-at}
+use Rattle.graph.proofs.Facts.{clash, both-true, and-true, all-at, all-of}
 use Rattle.table.specs.declared.Table.{Table}
 use Rattle.table.specs.Memory.{vertices, D, T, cost}
 use Rattle.machine.specs.declared.Phase.{Phase}
@@ -23,7 +23,8 @@ pub record LiveFits (t : Table) (st : State) (i : ℕ) : Type 0 where
   pub ahead : 1 ≤ left st i
   pub soon : left st i ≤ D t i - 1
   pub waits : wait st i ≡ T t i - D t i + left st i
-  pub within : (u : ℕ) → u < 16 → remaining st i u ≤ cost t i u
+  pub within : (u : ℕ) → u < 16 → u < vertices t i → remaining st i u ≤ cost t i u
+  pub spare : (u : ℕ) → u < 16 → vertices t i ≤ u → remaining st i u ≡ 0
   pub some : nothingLeft st i ≡ false
   pub behind : (u : ℕ) → u < vertices t i → clear t st i u ≡ false → remaining st i u ≡ cost t i u
 
@@ -43,13 +44,13 @@ either true b h e = absurd (clash refl e)
 either false b h e = h
 
 module _ (t : Table) (st : State) (i : ℕ) where
-  within-cost : withinCost t st i ≡ true → (u : ℕ) → u < 16 → remaining st i u ≤ cost t i u
+  within-cost : withinCost t st i ≡ true → (u : ℕ) → u < 16 → u < vertices t i → remaining st i u ≤ cost t i u
   unfolding withinCost
-  within-cost h u b = go (decLt u (vertices t i)) (all-at 16 _ h u b)
-    where
-      go : Dec (u < vertices t i) → pick (ltb u (vertices t i)) (leb (remaining st i u) (cost t i u)) (eqb (remaining st i u) 0) ≡ true → remaining st i u ≤ cost t i u
-      go (yes l) e = leb-true (remaining st i u) (cost t i u) (rw (lt-ltb u (vertices t i) l) at e)
-      go (no l) e = let z = eqb-true (remaining st i u) 0 (rw (le-ltb u (vertices t i) (omega arith)) at e) in omega arith
+  within-cost h u b l = leb-true (remaining st i u) (cost t i u) (rw (lt-ltb u (vertices t i) l) at (all-at 16 _ h u b))
+
+  spare-zero : withinCost t st i ≡ true → (u : ℕ) → u < 16 → vertices t i ≤ u → remaining st i u ≡ 0
+  unfolding withinCost
+  spare-zero h u b l = eqb-true (remaining st i u) 0 (rw (le-ltb u (vertices t i) l) at (all-at 16 _ h u b))
 
   whole-behind : wholeBehind t st i ≡ true → (u : ℕ) → u < vertices t i → clear t st i u ≡ false → remaining st i u ≡ cost t i u
   unfolding wholeBehind
@@ -68,6 +69,7 @@ module _ (t : Table) (st : State) (i : ℕ) where
         soon = leb-true (left st i) (D t i - 1) (a₅ .1);
         waits = eqb-true (wait st i) (T t i - D t i + left st i) (a₄ .1);
         within = within-cost (a₃ .1);
+        spare = spare-zero (a₃ .1);
         some = not-true (nothingLeft st i) (a₂ .1);
         behind = whole-behind (a₁ .1);
       }
@@ -84,6 +86,43 @@ module _ (t : Table) (st : State) (i : ℕ) where
       let a = both-true (not (live st i) && eqb (wait st i) 0) (nothingLeft st i) h in
       let b = both-true (not (live st i)) (eqb (wait st i) 0) (a .0) in
       record { idles = not-true (live st i) (b .0); no-wait = eqb-true (wait st i) 0 (b .1); none = a .1 }
+
+-- ---- and the reverse
+module _ (t : Table) (st : State) (i : ℕ) where
+  flip : {c : Bool} → c ≡ false → not c ≡ true
+  flip h = rw h refl
+
+  within-of : LiveFits t st i → withinCost t st i ≡ true
+  unfolding withinCost
+  within-of f = all-of 16 _ (λ u b. go u b (decLt u (vertices t i)))
+    where
+      go : (u : ℕ) → u < 16 → Dec (u < vertices t i) → pick (ltb u (vertices t i)) (leb (remaining st i u) (cost t i u)) (eqb (remaining st i u) 0) ≡ true
+      go u b (yes l) = rw (lt-ltb u (vertices t i) l) (le-leb (remaining st i u) (cost t i u) (f .within u b l))
+      go u b (no l) = rw (le-ltb u (vertices t i) (omega arith)) (eq-eqb (remaining st i u) 0 (f .spare u b (omega arith)))
+
+  whole-of : LiveFits t st i → wholeBehind t st i ≡ true
+  unfolding wholeBehind
+  whole-of f = all-of (vertices t i) _ (λ u l. go u l (clear t st i u) refl)
+    where
+      go : (u : ℕ) → u < vertices t i → (c : Bool) → clear t st i u ≡ c → c || eqb (remaining st i u) (cost t i u) ≡ true
+      go u l true q = refl
+      go u l false q = eq-eqb (remaining st i u) (cost t i u) (f .behind u l q)
+
+  pub of-live : LiveFits t st i → fitsLive t st i ≡ true
+  unfolding fitsLive
+  of-live f =
+      and-true _ _ (and-true _ _ (and-true _ _ (and-true _ _ (and-true _ _
+      (le-leb 1 (left st i) (f .ahead)) (le-leb (left st i) (D t i - 1) (f .soon)))
+      (eq-eqb (wait st i) (T t i - D t i + left st i) (f .waits)))
+      (within-of f)) (flip (f .some))) (whole-of f)
+
+  pub of-idle : IdleFits t st i → fitsIdle t st i ≡ true
+  unfolding fitsIdle
+  of-idle f = and-true _ _ (f .none) (lt-ltb (wait st i) (T t i) (f .short))
+
+  pub of-zero : ZeroTask st i → zeroTaskIn st i ≡ true
+  unfolding zeroTaskIn
+  of-zero f = and-true _ _ (and-true _ _ (flip (f .idles)) (eq-eqb (wait st i) 0 (f .no-wait))) (f .none)
 
 -- EACH TASK OF A STATE THAT FITS: a running one, live or idle or not used; a stopped one
 module _ (t : Table) (st : State) (fitting : fits t st ≡ true) where

@@ -3,6 +3,7 @@ use mathlib.Core.Path.{_≡_, refl, sym, ap, _∙_}
 use mathlib.Core.Bool.{Bool, true, false}
 use Prim.Native.Nat.{ℕ, _+_, _-_, _^_, _≤_, _<_}
 use native.Mathlib.Omega.{arith}
+use native.Mathlib.Decide.{decLt}
 use Rattle.graph.proofs.Facts.{off-when}
 use Rattle.table.specs.declared.Table.{Table}
 use Rattle.table.specs.Memory.{vertices, D, T, edgeIn, cost}
@@ -31,7 +32,7 @@ module _ (t : Table) (good : GoodTable t) (st : State) (fitting : fits t st ≡ 
       record {
         small = range .deadlines i (sixteen i b) e;
         ahead = f .ahead;
-        within = f .within;
+        within = λ u c. elim (decLt u (vertices t i)) [ yes l ↦ f .within u c l | no l ↦ let z = f .spare u c (omega arith) in omega arith ];
         some = something st i (f .some);
         behind = λ u w l₁ l₂ x y.
             let o = good .each i b .ends w u x in

@@ -9,7 +9,7 @@ use native.Mathlib.Decide.{decLt}
 use native.Mathlib.Nat.{div-eq-of-lt}
 use lib.Pow.{pow-mono}
 use lib.Dec.{ltb, leb, eqb}
-use borrow.Author.Tests.{lt-ltb, ltb-false, leb-false, eq-eqb, eqb-true}
+use borrow.Author.Tests.{lt-ltb, ltb-false, leb-false, eqb-true}
 use Rattle.graph.specs.Words.{pick, bit, all, isIn}
 use Rattle.graph.proofs.Facts.{clash, both-true, and-true, all-of, below-pass}
 use Rattle.table.specs.declared.Table.{Table}
@@ -18,16 +18,16 @@ use Rattle.machine.specs.declared.Phase.{Phase}
 use Rattle.machine.specs.declared.Phase.the-variants.{Running, Stopped}
 use Rattle.machine.specs.declared.State.{State}
 use Rattle.machine.specs.declared.Ticked.{Ticked}
-use Rattle.machine.specs.States.{live, wait, deadline, left, ticksLeft, wrap, zeros}
+use Rattle.machine.specs.States.{live, wait, deadline, left, zeros}
 use Rattle.machine.specs.Steps.{released, available, availables, nothingLeft, worked, ended, finished, missed, Legal, ownChoice}
 use Rattle.machine.specs.Fitting.{zeroTaskIn, fitsPhase, fits}
 use Rattle.machine.specs.Ticking.{ticked, refuse, tickOn}
-use Rattle.machine.proofs.Index.{wrap-small, zeros-live, zeros-wait, zeros-remaining}
+use Rattle.machine.proofs.Index.{not-missed, wrap-small, zeros-live, zeros-wait, zeros-remaining}
 use Rattle.machine.proofs.Standing.{is-nothing, Going, Resting, Standing, opened-stands, stands-fits}
 use Rattle.machine.proofs.Moving.{mid, next, next-stands, next-live, next-deadline, next-clock, kept-live, unnamed, mid-live}
 use Rattle.machine.proofs.Own.{own-legal}
 use Rattle.machine.proofs.Lowest.{Lowest, None}
-use Rattle.machine.proofs.Cases.{beyond, tooSoon, chosenIn, afterWork, afterEnds, Admitted, Case, unfit, halted, no-task, early, misses, goes-on, cases}
+use Rattle.machine.proofs.Cases.{beyond, tooSoon, chosenIn, afterWork, afterEnds, Admitted, Case, unfit, halted, no-task, early, misses, goes-on, cases, running-stopped}
 use Rattle.machine.proofs.Fitted.{InRange, fits-stands}
 
 -- ---- small facts
@@ -46,14 +46,6 @@ bit-below x i b h = elim (decLt i 16) [
 and-false : (a b : Bool) → a && b ≡ false → a ≡ true → b ≡ false
 and-false true b h e = h
 and-false false b h e = absurd (clash e refl)
-
--- what is not now is ahead
-ahead : (e c : ℕ) → e < 2 ^ 32 → c < 2 ^ 32 → (e ≡ c → ⊥) → 1 ≤ ticksLeft e c
-unfolding ticksLeft wrap
-ahead e c h k d = omega arith
-
-pub running-stopped : (p : Phase) (k : ℕ) → p ≡ Running → p ≡ Stopped k → ⊥
-running-stopped p k e q = let z : _≡_ {A = ℕ} 0 1 = cc in omega arith
 
 -- ---- states whose numbers are in range
 pub zeros-range : (c : ℕ) (p : Phase) → c < 2 ^ 32 → InRange (zeros c p)
@@ -117,14 +109,12 @@ module _ (t : Table) (good : GoodTable t) (st : State) (s : Standing t st) (name
 
   -- a job that does not miss has ticks left
   left-over : None 16 (missed then) → (i : ℕ) → i < t .n → live then i ≡ true → 1 ≤ left then i
-  unfolding missed left
   left-over fine i b e =
       let c = sixteen i b in
       let g = mid-live t good st s named tasks free i b (next-live t good st s named tasks free chosen only i c e .0) in
       let q = next-deadline t good st s named tasks free chosen only i c e in
       let y = g .going .small in
-      ahead (deadline then i) (then .clock) (omega arith) clock-small
-      (λ z. clash (eq-eqb (deadline then i) (then .clock) z) (and-false (live then i) _ (fine i c) e))
+      not-missed then i clock-small (omega arith) (fine i c) e
 
   then-stands : None 16 (missed then) → Standing t then
   then-stands fine = next-stands t good st s named tasks free chosen only (left-over fine)

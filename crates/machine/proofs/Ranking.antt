@@ -15,22 +15,8 @@ use Rattle.table.specs.declared.Table.{Table}
 use Rattle.machine.specs.declared.State.{State}
 use Rattle.machine.specs.States.{left}
 use Rattle.machine.specs.Steps.{available, availables, before, insert, ranked, ownChoice, Legal}
+use Rattle.machine.proofs.Rank.{RanksBefore, before-is, never-both, transitive, other-way}
 use Rattle.machine.proofs.Own.{no-in, each-once, insert-in, ranked-in, own-legal}
-
--- "then task, then vertex"
-abbrev pub ByTask : ℕ → ℕ → Type 0
-ByTask a b = (a / 16 < b / 16) ⊎ ((a / 16 ≡ b / 16) × (a % 16 < b % 16))
-
--- "ranked by ticks left, then task, then vertex": a ranks before b
-abbrev pub RanksBefore : State → ℕ → ℕ → Type 0
-RanksBefore st a b = (left st (a / 16) < left st (b / 16)) ⊎ ((left st (a / 16) ≡ left st (b / 16)) × ByTask a b)
-
--- by task, then vertex, is by sixteen times task plus vertex
-by-task : (a b : ℕ) → a < b → ByTask a b
-by-task a b l = elim (decLt (a / 16) (b / 16)) [ yes k ↦ inl k | no k ↦ inr (omega arith, omega arith) ]
-
-by-number : (a b : ℕ) → ByTask a b → a < b
-by-number a b r = ⊎-elim (λ k. omega arith) (λ k. omega (arith, k .0, k .1)) r
 
 -- each ranks before all that stand after it
 unfoldable pub InRankOrder : State → List ℕ → Type 0
@@ -44,59 +30,6 @@ pub record Ranking (t : Table) (st : State) (l : List ℕ) : Type 0 where
   pub ascends : InRankOrder st l
 
 module _ (st : State) where
-  abbrev l-of : ℕ → ℕ
-  l-of a = left st (a / 16)
-
-  -- ---- `before` tests it
-  pub before-is : (a b : ℕ) → before st a b ≡ true → RanksBefore st a b
-  unfolding before
-  before-is a b h = go (ltb (l-of a) (l-of b)) refl h
-    where
-      go : (c : Bool) → ltb (l-of a) (l-of b) ≡ c → c || (eqb (l-of a) (l-of b) && ltb a b) ≡ true → RanksBefore st a b
-      go true e h = inl (ltb-true (l-of a) (l-of b) e)
-      go false e h =
-          let q = both-true (eqb (l-of a) (l-of b)) (ltb a b) h in
-          inr (eqb-true (l-of a) (l-of b) (q .0), by-task a b (ltb-true a b (q .1)))
-
-  pub is-before : (a b : ℕ) → RanksBefore st a b → before st a b ≡ true
-  unfolding before
-  is-before a b r = go (ltb (l-of a) (l-of b)) refl r
-    where
-      go : (c : Bool) → ltb (l-of a) (l-of b) ≡ c → RanksBefore st a b → c || (eqb (l-of a) (l-of b) && ltb a b) ≡ true
-      go true e r = refl
-      go false e r = ⊎-elim
-          (λ k. absurd (clash (lt-ltb (l-of a) (l-of b) k) e))
-          (λ k. and-true _ _ (eq-eqb (l-of a) (l-of b) (k .0)) (lt-ltb a b (by-number a b (k .1))))
-          r
-
-  -- ---- a strict order of all vertices
-  never-both : (a b : ℕ) → RanksBefore st a b → RanksBefore st b a → ⊥
-  never-both a b p q = ⊎-elim
-      (λ x. ⊎-elim (λ y. omega arith) (λ y. omega (arith, y .0)) q)
-      (λ x. ⊎-elim (λ y. omega (arith, x .0)) (λ y. omega (arith, by-number a b (x .1), by-number b a (y .1))) q)
-      p
-
-  transitive : (a b c : ℕ) → RanksBefore st a b → RanksBefore st b c → RanksBefore st a c
-  transitive a b c p q = ⊎-elim
-      (λ x. ⊎-elim (λ y. inl (omega arith)) (λ y. inl (omega (arith, y .0))) q)
-      (λ x. ⊎-elim
-      (λ y. inl (omega (arith, x .0)))
-      (λ y. inr (x .0 ∙ y .0, by-task a c (omega (arith, by-number a b (x .1), by-number b c (y .1)))))
-      q)
-      p
-
-  other-way : (a b : ℕ) → before st a b ≡ false → (a ≡ b → ⊥) → RanksBefore st b a
-  unfolding before
-  other-way a b h d = go (ltb (l-of a) (l-of b)) refl h (ℕ-discrete (l-of a) (l-of b))
-    where
-      go : (c : Bool) → ltb (l-of a) (l-of b) ≡ c → c || (eqb (l-of a) (l-of b) && ltb a b) ≡ false → Dec (l-of a ≡ l-of b) → RanksBefore st b a
-      go true e h q = absurd (clash refl h)
-      go false e h (no q) = let k = ltb-false (l-of a) (l-of b) e in inl (omega arith)
-      go false e h (yes q) =
-          let k : ltb a b ≡ false = off-when (ltb a b) (λ w. clash (and-true _ _ (eq-eqb (l-of a) (l-of b) q) w) h) in
-          let n = ltb-false a b k in
-          inr (sym q, by-task b a (omega arith))
-
   -- ---- inserting keeps rank order
   insert-order : (a : ℕ) (l : List ℕ) → isIn a l ≡ false → InRankOrder st l → InRankOrder st (insert st a l)
   unfolding insert InRankOrder
@@ -108,13 +41,13 @@ module _ (st : State) where
 
       after-a : before st a b ≡ true → (x : ℕ) → isIn x (b ∷ l) ≡ true → RanksBefore st a x
       after-a e x h = elim (ℕ-discrete x b) [
-        | yes q ↦ rw q (before-is a b e)
-        | no q ↦ transitive a b x (before-is a b e) (r .0 x (sym (other-in x b l q) ∙ h))
+        | yes q ↦ rw q (before-is st a b e)
+        | no q ↦ transitive st a b x (before-is st a b e) (r .0 x (sym (other-in x b l q) ∙ h))
       ]
 
       after-b : before st a b ≡ false → (x : ℕ) → isIn x (insert st a l) ≡ true → RanksBefore st b x
       after-b e x h = elim (ℕ-discrete x a) [
-        | yes q ↦ rw q (other-way a b e differ)
+        | yes q ↦ rw q (other-way st a b e differ)
         | no q ↦ r .0 x (sym (other-in x a l q) ∙ sym (insert-in st x a l) ∙ h)
       ]
 
@@ -141,14 +74,14 @@ module _ (st : State) where
       heads : a ≡ b
       heads = elim (ℕ-discrete a b) [
         | yes e ↦ e
-        | no d ↦ absurd (never-both a b
+        | no d ↦ absurd (never-both st a b
             (p .0 b (sym (other-in b a l (λ e. d (sym e))) ∙ g b (first-in b m)))
             (q .0 a (sym (other-in a b m d) ∙ f a (first-in a l))))
       ]
 
       rest : (c : ℕ) (u : List ℕ) (d : ℕ) (v : List ℕ) → c ≡ d → ((x : ℕ) → isIn x u ≡ true → RanksBefore st c x) × InRankOrder st u → Within (c ∷ u) (d ∷ v) → Within u v
       rest c u d v e r w x h =
-          let other : x ≡ d → ⊥ = λ z. let k : RanksBefore st c c = subst (λ (y : ℕ). RanksBefore st c y) (z ∙ sym e) (r .0 x h) in never-both c c k k in
+          let other : x ≡ d → ⊥ = λ z. let k : RanksBefore st c c = subst (λ (y : ℕ). RanksBefore st c y) (z ∙ sym e) (r .0 x h) in never-both st c c k k in
           sym (other-in x d v other) ∙ w x (tail-in x c u h)
 
       both : l ≡ m → a ∷ l ≡ b ∷ m
