@@ -2,3 +2,5 @@
 pub mod Laying
 pub mod Digits
 pub mod Sign
+-- Each public contract allows one result and one buffer at the return.
+pub mod Unique
