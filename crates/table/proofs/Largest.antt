@@ -12,8 +12,8 @@ use borrow.Author.Tests.{ltb-true}
 use Rattle.table.specs.declared.Task.{Task}
 use Rattle.table.specs.declared.Table.{Table}
 use Rattle.table.specs.declared.Outcome.the-variants.{Read}
-use Rattle.graph.specs.Words.{all, bit, rowFrom, row, alsoIf, those, thoseBelow, joinFrom, inOrder}
-use Rattle.graph.specs.Graph.{edge, still, hasPred, sweepFrom, sweep, sweeps, total, acyclicAmong, acyclic}
+use Rattle.graph.specs.Words.{all, bit, rowFrom, row, alsoIf, those, thoseBelow, anyOf, isNone, joinFrom, inOrder}
+use Rattle.graph.specs.Graph.{edge, ledTo, sweep, sweeps, acyclicAmong, acyclic}
 use Rattle.graph.proofs.Facts.{clash, all-at, past-end}
 use Rattle.table.specs.Memory.{noTask, task, vertices, D, T, succ, edgeIn, cost}
 use Rattle.table.specs.Reading.{read}
@@ -87,7 +87,7 @@ unfolding edgeKeys vertices edgeIn succ fullTask
 full-keys i h = ap (λ (a : Task). length (thoseBelow (16 * a .v) (λ k. edge (a .succ) (k / 16) (k % 16)))) (full-at i h) ∙ full-count
 
 no-way-back : acyclic fullSucc ≡ true
-unfolding acyclic acyclicAmong sweeps sweep sweepFrom hasPred still total edge bit fullSucc row rowFrom
+unfolding acyclic acyclicAmong sweeps sweep ledTo anyOf isNone those alsoIf edge bit fullSucc row rowFrom
 no-way-back = refl
 
 full-task : (i : ℕ) → i < 16 → GoodTask fullTable i

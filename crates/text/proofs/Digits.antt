@@ -51,23 +51,3 @@ enough y (suc (suc k)) h i =
     let j : y / 10 < 10 ^ suc k = omega arith in
     let e : suc (suc k) - 1 ≡ suc k = omega arith in
     (omega arith, rw e j)
-
--- ---- how many: one digit at least, twenty at most
-some-digits : (k x : ℕ) (later : List ℕ) → (length later < length (digitsBefore (suc k) x later)) × (length (digitsBefore (suc k) x later) ≤ suc k + length later)
-unfolding digitsBefore
-some-digits zero x later = elim (ltb x 10) as
-    (λ b. (length later < length (pick b ((48 + x) ∷ later) ((48 + x % 10) ∷ later))) × (length (pick b ((48 + x) ∷ later) ((48 + x % 10) ∷ later)) ≤ 1 + length later))
-    [ true ↦ (omega arith, omega arith) | false ↦ (omega arith, omega arith) ]
-some-digits (suc k) x later = go (ltb x 10) (some-digits k (x / 10) ((48 + x % 10) ∷ later))
-  where
-    rest : List ℕ
-    rest = digitsBefore (suc k) (x / 10) ((48 + x % 10) ∷ later)
-
-    go : (b : Bool) → (suc (length later) < length rest) × (length rest ≤ suc k + suc (length later))
-        → (length later < length (pick b ((48 + x) ∷ later) rest)) × (length (pick b ((48 + x) ∷ later) rest) ≤ suc (suc k) + length later)
-    go true s = (omega arith, omega arith)
-    go false s = (omega arith, omega arith)
-
-pub decimal-length : (x : ℕ) → (1 ≤ length (decimal x)) × (length (decimal x) ≤ 20)
-unfolding decimal
-decimal-length x = let s = some-digits 19 x [] in (omega arith, omega arith)

@@ -46,12 +46,12 @@ within-after at n k h = let i : at ≤ k = omega arith in rw (le-leb at k i, le-
 -- ---- its length, and its byte at each place
 pub length-laid : (buf : List ℕ) (at : ℕ) (l : List ℕ) → length (laid buf at l) ≡ length buf
 unfolding laid
-length-laid buf at l = length-row (length buf) (λ k. pick (within at (length l) k) (getD l (k - at) 0) (getD buf k 0))
+length-laid buf at l = length-row (length buf) _
 
 pub laid-at : (buf : List ℕ) (at : ℕ) (l : List ℕ) (k : ℕ) → k < length buf
     → getD (laid buf at l) k 0 ≡ pick (within at (length l) k) (getD l (k - at) 0) (getD buf k 0)
 unfolding laid
-laid-at buf at l k h = row-at (length buf) (λ k. pick (within at (length l) k) (getD l (k - at) 0) (getD buf k 0)) k 0 h
+laid-at buf at l k h = row-at (length buf) _ k 0 h
 
 module _ (buf : List ℕ) (at : ℕ) (l : List ℕ) (k : ℕ) (h : k < length buf) where
   -- what stood before it stays

@@ -2,3 +2,7 @@
 pub mod Laying
 pub mod Digits
 pub mod Sign
+-- What decimal and signed numbers mean.
+pub mod Decimal
+-- Each public contract allows one result and one buffer at the return.
+pub mod Unique

@@ -21,11 +21,11 @@ unfoldable pub digitsBefore : ℕ → ℕ → List ℕ → List ℕ
 digitsBefore zero x later = later
 digitsBefore (suc k) x later = pick (ltb x 10) ((48 + x) ∷ later) (digitsBefore k (x / 10) ((48 + x % 10) ∷ later))
 
--- of at most twenty digits, which is every number of 64 bits
+-- at most twenty digits, which is every number of 64 bits (`decimal-numeral`, `decimal-value`, `decimal-only`, proofs/Decimal.antt)
 unfoldable pub decimal : ℕ → List ℕ
 decimal x = digitsBefore 20 x []
 
--- with a minus sign, byte 45, where it is negative
+-- "margin -4": with a minus sign, byte 45, where it is negative (`signed-value`)
 unfoldable pub signed : ℤ → List ℕ
 signed (pos n) = decimal n
 signed (negsuc n) = 45 ∷ decimal (suc n)

@@ -21,11 +21,12 @@ use Rattle.table.specs.Good.{GoodTable}
 use Rattle.table.proofs.Sound.{read-good}
 use Rattle.verdict.specs.declared.Verdict.{Verdict}
 use Rattle.verdict.specs.Verdicts.{vol, len, due, margin, verdictOn}
-use Rattle.verdict.specs.Report.{text, newline, decimal, signed, headLine, taskLine, lastLine, badLine, reportOn, reportRead, report}
+use Rattle.text.specs.Text.{text, newline, decimal, signed}
+use Rattle.verdict.specs.Report.{headLine, taskLine, lastLine, badLine, reportOn, reportRead, report}
 use Rattle.verdict.proofs.Amounts.{vol-high, len-vol, due-bound}
 use Rattle.verdict.proofs.Margins.{lowEnd, highEnd, InRange, margin-range}
 use Rattle.verdict.proofs.Says.{Refuses, Accepts, table-says}
-use Rattle.verdict.proofs.Decimal.{decimal-short, decimal-length, signed-short}
+use Rattle.text.proofs.Decimal.{decimal-short, decimal-length, signed-short}
 
 -- a margin has at most fifteen digits
 pub fifteen : (z : ℤ) → InRange z → natAbs z < 10 ^ 15

@@ -42,7 +42,7 @@ loop-again c =
     let e = enough (l .y) (l .p) (omega arith) (omega arith) in (
       omega arith,
       omega arith,
-      e .1,
+      omega (arith, e .1),
       length-set (l .digits) (l .p - 1) _ ∙ l .inv .3,
       digit-put (l .digits) (l .p) (l .y) (omega arith) (omega arith) (omega arith) ∙ l .inv .4,
     )

@@ -2,7 +2,7 @@
 use mathlib.Core.Path.{_∙_}
 use Prim.Native.Nat.{_-_}
 use native.Mathlib.Omega.{arith}
-use Rattle.text.proofs.Digits.{decimal-length}
+use Rattle.text.proofs.Decimal.{decimal-length}
 use Rattle.text.proofs.Laying.{one-then, one-outside}
 use borrow.Author.Needs.{needs}
 use Rattle.text.proofs.put_negative.Statement.{statement}

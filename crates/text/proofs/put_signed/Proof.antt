@@ -1,5 +1,5 @@
 -- Below 0 the bytes are a minus sign and how far below 0 the number is, computed as -1 less it, plus 1, which fits at the lowest number too.
-use mathlib.Core.Path.{sym, ap, _∙_, subst}
+use mathlib.Core.Path.{ap, _∙_}
 use mathlib.Core.List.{_∷_}
 use Prim.Native.Nat.{_+_}
 use native.Mathlib.Omega.{arith}
@@ -7,8 +7,6 @@ use borrow.Author.Needs.{needs}
 use lib.IntN.{ℤ, natAbs}
 use lib.ListN.{length}
 use mir.Facts.{toZ-ofZ}
-use mir.Syntax.{w64}
-use mir.Val.{Fits}
 use Rattle.text.specs.Laid.{laid}
 use Rattle.text.specs.Text.{decimal}
 use Rattle.text.proofs.Sign.{Below, NotBelow, below, not-below, less-fits, less-read, cast-asks, signed-below, signed-not-below}
@@ -31,8 +29,8 @@ cast-below c = cast-asks (less-read (c .before .before .fits .x) (is-below c)) (
 add-put-negative : tie.Need-add-put-negative
 add-put-negative c =
     let b = is-below (c .before) in
-    let e = less-read (c .before .before .before .fits .x) b in
-    subst (λ (z : ℤ). Fits w64 (natAbs z + 1)) (sym e) (record { fits = omega (arith, b .small) })
+    let e = ap natAbs (less-read (c .before .before .before .fits .x) b) in
+    omega (arith, b .small)
 
 put-negative-requires : tie.Need-put-negative-requires
 put-negative-requires c κs = search needs
