@@ -116,6 +116,16 @@ module _ (s : List ℕ) (at : ℕ) where
       let q = ranged-read Ticks 1 1000000 at (value4 s at) x (r .1) in
       (r .0, q .1, q .2)
 
+-- its refusal is never success
+pub ticks-refused : (s : List ℕ) (at : ℕ) → ticksAt s at ≡ Stop Read → ⊥
+unfolding ticksAt field ranged
+ticks-refused s at e = go (leb (at + 4) (length s)) (leb 1 (value4 s at) && leb (value4 s at) 1000000) e
+  where
+    go : (a b : Bool) → pick a (pick b (Got (value4 s at)) (Stop (Ticks at))) (Stop (Short at)) ≡ Stop Read → ⊥
+    go true true e = let z : _≡_ {A = ℕ} 0 1 = cc in omega arith
+    go true false e = let z : _≡_ {A = ℕ} 0 1 = cc in omega arith
+    go false b e = let z : _≡_ {A = ℕ} 0 1 = cc in omega arith
+
 -- ---- T, by what its ticks gave
 module _ (d : ℕ) (s : List ℕ) (at : ℕ) (f : Field) (h : f ≡ ticksAt s at) where
   pub period-stop : (o : Outcome) → f ≡ Stop o → Stop o ≡ periodAt d s at

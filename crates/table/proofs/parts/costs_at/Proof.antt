@@ -8,8 +8,8 @@ use native.Mathlib.Nat.{sub-zero}
 use native.Mathlib.Omega.{arith}
 use mathlib.Core.Path.{_≡_, refl, sym, ap, _∙_}
 use Prim.Native.Nat.{ℕ, _≤_, _<_, _+_, _-_}
-use Rattle.table.proofs.reading.costs_at.Statement.{statement}
-use Rattle.table.proofs.reading.costs_at.Tie as tie
+use Rattle.table.proofs.parts.costs_at.Statement.{statement}
+use Rattle.table.proofs.parts.costs_at.Tie as tie
 
 abbrev Inv-loop : tie.InvT-loop
 Inv-loop bytes at v costs₀ p₀ u₀ costs p u = (u ≤ v) × (p ≤ length bytes) × (costsAt bytes (v - u) p u costs ≡ costsAt bytes v at 0 noCosts)

@@ -3,8 +3,8 @@ use native.Mathlib.Nat.{mod-eq-of-lt, one-mul}
 use mathlib.Core.Path.{ap, _∙_}
 use Prim.Native.Nat.{ℕ, _%_, _^_}
 use borrow.Author.Needs.{needs}
-use Rattle.table.proofs.reading.power.Statement.{statement}
-use Rattle.table.proofs.reading.power.Tie as tie
+use Rattle.table.proofs.parts.power.Statement.{statement}
+use Rattle.table.proofs.parts.power.Tie as tie
 
 cast-result : tie.Need-cast-result
 cast-result c = search needs

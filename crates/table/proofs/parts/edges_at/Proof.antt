@@ -8,8 +8,8 @@ use native.Mathlib.Nat.{sub-zero}
 use native.Mathlib.Omega.{arith}
 use mathlib.Core.Path.{_≡_, refl, sym, ap, _∙_}
 use Prim.Native.Nat.{ℕ, _≤_, _<_, _+_, _-_}
-use Rattle.table.proofs.reading.edges_at.Statement.{statement}
-use Rattle.table.proofs.reading.edges_at.Tie as tie
+use Rattle.table.proofs.parts.edges_at.Statement.{statement}
+use Rattle.table.proofs.parts.edges_at.Tie as tie
 
 abbrev Inv-loop : tie.InvT-loop
 Inv-loop bytes at v e succ₀ p₀ low₀ i₀ succ p low i = (i ≤ e) × (p ≤ length bytes) × (edgesAt v bytes (e - i) p low succ ≡ edgesAt v bytes e at 0 noSucc)
