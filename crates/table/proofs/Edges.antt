@@ -19,7 +19,7 @@ use Rattle.table.specs.Writing.{edgeBytes}
 use Rattle.table.proofs.Bits.{no-edge}
 use Rattle.table.proofs.Ascending.{Asc, empty, picked-out}
 use Rattle.table.proofs.Successors.{addAll, Added, added, edge-under, no-rows}
-use Rattle.table.proofs.Fields.{Ends, edge-view, on-field}
+use Rattle.table.proofs.FieldViews.{Ends, edge-view, on-field}
 use Rattle.table.proofs.FieldBytes.{at-sum, edge-is}
 
 abbrev pub AllEnds : ℕ → List ℕ → Type 0

@@ -14,7 +14,7 @@ use Rattle.table.specs.Writing.{edgeKeys}
 use Rattle.table.proofs.Bits.{bit-zero}
 use Rattle.table.proofs.Ascending.{Asc, keys-asc}
 use Rattle.table.proofs.Successors.{addAll, Rows, edge-under, same-rows}
-use Rattle.table.proofs.Fields.{Ends}
+use Rattle.table.proofs.FieldViews.{Ends}
 use Rattle.table.proofs.Edges.{AllEnds, slot, only-them, edge-in}
 
 module _ (t : Table) (i : ℕ) where

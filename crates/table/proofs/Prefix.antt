@@ -19,7 +19,7 @@ use Rattle.table.specs.declared.TableRead.{TableRead}
 use Rattle.graph.specs.Words.{pick}
 use Rattle.table.specs.Memory.{noSucc, noCosts, succ}
 use Rattle.table.specs.Reading.{onward, whenRead, field, markAt, ranged, byteAt, value4, ticksAt, notUnder, periodAt, edgeAt, costsAt, addEdge, edgesAt, badTask, partsAt, taskAt, badTable, withTask, tasksAt, tableAt, refused, ending, read}
-use Rattle.table.proofs.Fields.{View, mark-view, byte-view, ticks-view, period-view, edge-view, went, value, halt}
+use Rattle.table.proofs.FieldViews.{View, mark-view, byte-view, ticks-view, period-view, edge-view, went, value, halt}
 use Rattle.table.proofs.Went.{out-table, task-went, noneYet, table-went}
 
 -- ---- what follows a field, and a part, over two lists

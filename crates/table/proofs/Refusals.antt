@@ -22,7 +22,7 @@ use Rattle.graph.specs.Graph.{acyclic}
 use Rattle.table.specs.Memory.{noSucc, noCosts, succ}
 use Rattle.table.specs.Numbers.{number, place}
 use Rattle.table.specs.Reading.{onward, whenRead, field, markAt, ranged, byteAt, value4, ticksAt, notUnder, periodAt, edgeOk, edgeAt, costsAt, addEdge, edgesAt, badTask, partsAt, taskAt, badTable, withTask, tasksAt, tableAt, refused, ending, read}
-use Rattle.table.proofs.Fields.{Bad, bad-by}
+use Rattle.table.proofs.FieldViews.{Bad, bad-by}
 use Rattle.table.proofs.Went.{out-task, out-table, out-loaded}
 use Rattle.table.proofs.FieldBytes.{stop-got}
 

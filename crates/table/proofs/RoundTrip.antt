@@ -19,7 +19,7 @@ use Rattle.graph.specs.Words.{pick}
 use Rattle.table.specs.Reading.{read}
 use Rattle.table.specs.Writing.{encode, unusedZero, writing, frontOf, written}
 use Rattle.table.specs.Good.{GoodTable, Typed}
-use Rattle.table.proofs.Fields.{went}
+use Rattle.table.proofs.FieldViews.{went}
 use Rattle.table.proofs.FieldBytes.{Bytes}
 use Rattle.table.proofs.Sound.{read-good, read-typed}
 use Rattle.table.proofs.Back.{read-back}

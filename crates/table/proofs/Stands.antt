@@ -22,7 +22,7 @@ use Rattle.table.specs.Reading.{ranged, byteAt, value4, ticksAt, costsAt
 use Rattle.table.specs.Writing.{bytes4, edgeKeys, edgeBytes, encodeTask, encode, unusedZero}
 use Rattle.table.specs.Good.{GoodTask, GoodTable, Typed}
 use Rattle.table.proofs.Successors.{addAll, Rows}
-use Rattle.table.proofs.Fields.{Between, ticks-view, Ends, on-field, went}
+use Rattle.table.proofs.FieldViews.{Between, ticks-view, Ends, on-field, went}
 use Rattle.table.proofs.Went.{out-table, task-went, noneYet, table-went, file-went}
 use Rattle.table.proofs.FieldBytes.{field-got, pick-got, byte-bytes, period-is}
 use Rattle.table.proofs.Edges.{AllEnds, edges-are}

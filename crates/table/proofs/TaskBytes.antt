@@ -17,7 +17,7 @@ use Rattle.table.specs.Memory.{noSucc, noCosts, task, succ}
 use Rattle.table.specs.Reading.{ticksAt, costsAt, edgesAt, taskAt}
 use Rattle.table.specs.Writing.{bytes4, edgeBytes}
 use Rattle.table.proofs.Successors.{addAll}
-use Rattle.table.proofs.Fields.{ticks-view, on-field}
+use Rattle.table.proofs.FieldViews.{ticks-view, on-field}
 use Rattle.table.proofs.Went.{task-went}
 use Rattle.table.proofs.FieldBytes.{Bytes, at-sum, mark-bytes, byte-bytes, ticks-bytes, period-is}
 use Rattle.table.proofs.Edges.{edges-are, keys-are}

@@ -19,7 +19,7 @@ use Rattle.graph.specs.Graph.{acyclic}
 use Rattle.table.specs.Memory.{noSucc, noCosts, noTasks, noRow, task, succ}
 use Rattle.table.specs.Numbers.{number}
 use Rattle.table.specs.Reading.{markAt, byteAt, ticksAt, periodAt, costsAt, edgesAt, badTask, partsAt, taskAt, badTable, tasksAt, tableAt, refused, ending, read}
-use Rattle.table.proofs.Fields.{bad-by, Between, mark-view, byte-view, ticks-view, Period, period-view, on-field, went, passed}
+use Rattle.table.proofs.FieldViews.{bad-by, Between, mark-view, byte-view, ticks-view, Period, period-view, on-field, went, passed}
 
 pub out-task : (o : Outcome) → badTask o .outcome ≡ o
 unfolding badTask
