@@ -1,12 +1,12 @@
 -- A tick's refusals and the parts of its reply: for every file, table, state, release set and way to choose.
-use mathlib.Core.Path.{_≡_, refl, sym, ap, subst, _∙_}
+use mathlib.Core.Path.{_≡_, refl, sym, ap, subst}
 use mathlib.Core.Logic.{_⊎_, inl, inr, ⊎-elim}
-use mathlib.Core.Bool.{Bool, true, false, _&&_}
+use mathlib.Core.Bool.{Bool, true, false}
 use mathlib.Core.List.{List}
 use Prim.Native.Nat.{ℕ, _≤_, _<_}
 use native.Mathlib.Omega.{arith}
-use Rattle.graph.specs.Words.{pick, bit, all, row, lowestOr}
-use Rattle.graph.proofs.Facts.{clash, off-when}
+use Rattle.graph.specs.Words.{row}
+use Rattle.graph.proofs.Facts.{off-when}
 use Rattle.table.specs.declared.Outcome.{Outcome}
 use Rattle.table.specs.declared.Outcome.the-variants.{Read, Short, Mark, Range, Ticks, Order, Edge, Cycle, Extra}
 use Rattle.table.specs.declared.Table.{Table}
