@@ -19,9 +19,10 @@ use Rattle.machine.specs.Steps.{released, ownChoice, Legal}
 use Rattle.machine.specs.Fitting.{fits}
 use Rattle.machine.specs.Ticking.{refuse, tickOn, tickBy, tick}
 use Rattle.machine.proofs.Own.{own-legal}
+use Rattle.machine.proofs.Cases.{stopped-32, unfit-30}
 use Rattle.machine.proofs.Fitted.{InRange}
 use Rattle.machine.proofs.Keeping.{Keeps, zeros-range, opened-fits, legal-tick-keeps}
-use Rattle.machine.proofs.Refusing.{on-table, stopped-32, unfit-30, unopened-unfit}
+use Rattle.machine.proofs.Refusing.{on-table, unopened-unfit}
 
 module _ (s : List ℕ) (well : read s .outcome ≡ Read) where
   -- opening a file that is read: number 0, place 0, task 255, and all tasks idle with wait 0
