@@ -1,4 +1,5 @@
--- Opening fits, and a tick keeps a state fitting: for every good table, every state and every legal choice.
+-- Opening fits, and a tick keeps a state fitting: for every good table, every state and every legal choice. Of the numbers' types it is
+-- needed that the clock and the live jobs' deadlines are below 2 ^ 32 (`InRange`) and the release set below 2 ^ 16.
 use mathlib.Core.Path.{_≡_, refl, sym, subst, _∙_}
 use mathlib.Core.Bool.{Bool, true, false, _&&_}
 use mathlib.Core.List.{List}
