@@ -1,9 +1,9 @@
 -- A tick on a state that stands, case by case; a tick on a stopped state; reading that went well or not.
-use mathlib.Core.Path.{_≡_, refl, sym, ap, _∙_}
+use mathlib.Core.Path.{_≡_, refl, ap, _∙_}
 use mathlib.Core.Logic.{_⊎_, inl, inr, ⊎-elim}
 use mathlib.Core.Bool.{Bool, true, false, _&&_}
 use mathlib.Core.List.{List}
-use Prim.Native.Nat.{ℕ, zero, suc, _+_, _/_, _%_, _^_, _≤_, _<_}
+use Prim.Native.Nat.{ℕ, _/_, _%_, _^_, _≤_, _<_}
 use native.Mathlib.Omega.{arith}
 use native.Mathlib.Decide.{decLt}
 use native.Mathlib.Nat.{div-eq-of-lt}
@@ -18,7 +18,7 @@ use Rattle.table.specs.declared.Outcome.the-variants.{Read, Short, Mark, Range,
 use Rattle.table.specs.Reading.{whenRead}
 use Rattle.table.specs.Good.{GoodTable}
 use Rattle.machine.specs.declared.Phase.{Phase}
-use Rattle.machine.specs.declared.Phase.the-variants.{Running, Stopped}
+use Rattle.machine.specs.declared.Phase.the-variants.{Stopped}
 use Rattle.machine.specs.declared.State.{State}
 use Rattle.machine.specs.declared.Ticked.{Ticked}
 use Rattle.machine.specs.declared.Opened.{Opened}

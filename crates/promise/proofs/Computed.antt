@@ -1,5 +1,5 @@
 -- P1 to P12 and the report of A, computed.
-use Rattle.graph.specs.Words.{pick, bit, sum, all, rowFrom, row, largest, alsoIf, those, thoseBelow, lowest, isIn, setOf, joinFrom, inOrder, firstOr, lowestOr}
+use Rattle.graph.specs.Words.{bit, sum, all, rowFrom, row, largest, alsoIf, those, thoseBelow, lowest, isIn, setOf, joinFrom, inOrder, firstOr, lowestOr}
 use Rattle.graph.specs.Graph.{edge, still, hasPred, sweepFrom, sweep, sweeps, total, acyclicAmong, acyclic, oneMore, longestFrom, maximum, longest}
 use Rattle.table.specs.Memory.{noSucc, zeroTask, noTasks, noRow, noTable, noTask, task, vertices, D, succ, edgeIn, cost}
 use Rattle.table.specs.Memory

@@ -10,11 +10,11 @@ use Rattle.table.specs.declared.Outcome.the-variants.{Read}
 use Rattle.table.specs.Reading.{read}
 use Rattle.table.specs.Good.{GoodTable}
 use Rattle.verdict.specs.Verdicts.{verdict}
-use Rattle.verdict.proofs.Accepts.{Enough, Accepted, accepted}
+use Rattle.verdict.proofs.Accepts.{Enough, accepted}
 use Rattle.machine.specs.declared.State.{State}
 use Rattle.machine.specs.declared.Ticked.{Ticked}
 use Rattle.machine.specs.States.{wait}
-use Rattle.machine.specs.Steps.{released, ownChoice, Legal}
+use Rattle.machine.specs.Steps.{released, ownChoice}
 use Rattle.machine.specs.Ticking.{refuse, tickOn, tick}
 use Rattle.machine.proofs.Own.{own-legal}
 use Rattle.promise.proofs.Cases.{Case, no-task, too-soon, goes, tick-case}

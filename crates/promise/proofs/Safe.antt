@@ -1,18 +1,16 @@
 -- A SAFE STATE: it stands, and the theory reaches it. A tick that is not refused answers 0 and leads to a safe state.
-use mathlib.Core.Path.{_≡_, refl, sym, ap, _∙_}
-use mathlib.Core.Bool.{Bool, true, false}
-use mathlib.Core.List.{List, [], _∷_}
-use Prim.Native.Nat.{ℕ, zero, suc, _+_, _-_, _^_, _≤_, _<_}
+use mathlib.Core.Path.{_≡_, refl, ap, _∙_}
+use mathlib.Core.Bool.{true}
+use mathlib.Core.List.{List}
+use Prim.Native.Nat.{ℕ, _-_, _^_, _<_}
 use native.Mathlib.Omega.{arith}
 use native.Mathlib.Decide.{decLt}
-use Rattle.graph.specs.Words.{pick, bit, isIn, flag}
-use Rattle.graph.specs.Graph.{Chain, sumAlong, longest}
+use Rattle.graph.specs.Words.{pick, bit, flag}
 use Rattle.graph.proofs.Facts.{clash}
 use Rattle.table.specs.declared.Table.{Table}
 use Rattle.table.specs.declared.Outcome.{Outcome}
 use Rattle.table.specs.declared.Outcome.the-variants.{Read}
-use Rattle.table.specs.declared.Loaded.{Loaded}
-use Rattle.table.specs.Memory.{vertices, T, edgeIn}
+use Rattle.table.specs.Memory.{T}
 use Rattle.table.specs.Numbers.{number, place as place-of}
 use Rattle.table.specs.Reading.{whenRead, read}
 use Rattle.table.specs.Good.{GoodTable}
@@ -20,12 +18,12 @@ use Rattle.verdict.proofs.Accepts.{Enough}
 use Rattle.machine.specs.declared.Phase.the-variants.{Running}
 use Rattle.machine.specs.declared.State.{State}
 use Rattle.machine.specs.declared.Ticked.{Ticked}
-use Rattle.machine.specs.States.{live, wait, remaining, left, zeros, openRead, opening, unopened}
+use Rattle.machine.specs.States.{live, wait, zeros, openRead, opening, unopened}
 use Rattle.machine.specs.Steps.{released, worked, finished, Legal}
 use Rattle.machine.specs.Ticking.{ticked, refuse, tickOn, tickRead, tickBy}
 use Rattle.machine.proofs.Index.{zeros-live, released-past}
 use Rattle.machine.proofs.Standing.{Standing, opened-stands}
-use Rattle.machine.proofs.Moving.{mid, next, next-stands, next-wait}
+use Rattle.machine.proofs.Moving.{mid, next-stands, next-wait}
 use Rattle.machine.proofs.Answered.{tick-goes}
 use Rattle.theory.specs.Model as M
 use Rattle.theory.proofs.Arrays as A

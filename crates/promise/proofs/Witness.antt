@@ -2,13 +2,13 @@
 use mathlib.Core.Path.{_≡_, refl}
 use mathlib.Core.Bool.{true, false}
 use mathlib.Core.List.{_++_}
-use Prim.Native.Nat.{ℕ, zero, suc, _+_, _^_, _≤_, _<_}
+use Prim.Native.Nat.{ℕ, _+_, _^_, _≤_, _<_}
 use native.Mathlib.Omega.{arith}
 use lib.ListN.{length, take}
 use lib.Dec.{T, leb, ltb, ltb→lt}
 use lib.IntN.{pos}
 use borrow.Author.Tests.{leb-true}
-use Rattle.graph.specs.Words.{pick, bit, sum, all, rowFrom, row, largest, alsoIf, those, thoseBelow, lowest, isIn, setOf, joinFrom, inOrder, firstOr, lowestOr}
+use Rattle.graph.specs.Words.{bit, sum, all, rowFrom, row, largest, alsoIf, those, thoseBelow, lowest, isIn, setOf, joinFrom, inOrder, firstOr, lowestOr}
 use Rattle.graph.specs.Graph.{edge, still, hasPred, sweepFrom, sweep, sweeps, total, acyclicAmong, acyclic, oneMore, longestFrom, maximum, longest}
 use Rattle.table.specs.Memory.{noSucc, zeroTask, noTasks, noRow, noTable, noTask, task, vertices, D, succ, edgeIn, cost}
 use Rattle.table.specs.Memory

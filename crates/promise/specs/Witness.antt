@@ -5,7 +5,7 @@ use mathlib.Core.Bool.{true, false}
 use mathlib.Core.List.{List, [], _∷_, _++_}
 use Prim.Native.Nat.{ℕ, _+_, _^_, _≤_, _<_}
 use lib.ListN.{getD, take}
-use lib.IntN.{ℤ, pos}
+use lib.IntN.{pos}
 use Rattle.graph.specs.Words.{bit, sum, flag, isIn}
 use Rattle.verdict.specs.Verdicts.{verdict}
 use Rattle.machine.specs.Steps.{availables, ownChoice, Legal}

@@ -1,21 +1,21 @@
 -- vol, len and due of a good table: their ranges, and vol ≥ len, due ≥ vol. All are far below 2 ^ 63, so no sum of them wraps.
-use mathlib.Core.Path.{_≡_, refl, sym, ap, _∙_}
+use mathlib.Core.Path.{_≡_, refl, ap, _∙_}
 use mathlib.Core.Bool.{Bool, true, false}
 use mathlib.Core.List.{List, [], _∷_}
 use Prim.Native.Nat.{ℕ, zero, suc, _+_, _*_, _-_, _/_, _≤_, _<_}
 use native.Mathlib.Omega.{arith}
-use native.Mathlib.Nat.{mul-suc, mul-add, mul-comm, mul-le-mul, mul-le-mul-left, mul-le-mul-right, div-eq-of-lt, div-le-of-le-mul, div-eq-of-lt-le}
+use native.Mathlib.Nat.{mul-suc, mul-le-mul, mul-le-mul-left, mul-le-mul-right, div-eq-of-lt, div-le-of-le-mul, div-eq-of-lt-le}
 use native.Mathlib.Decide.{ℕ-discrete}
 use lib.Dec.{leb}
 use borrow.Author.Tests.{le-leb, leb-true}
 use Rattle.graph.specs.Words.{pick, sum}
-use Rattle.graph.specs.Graph.{acyclic, Chain, alone, joined, sumAlong, longest}
+use Rattle.graph.specs.Graph.{acyclic, Chain, alone, joined, sumAlong}
 use Rattle.graph.proofs.Facts.{sum-le, sum-at}
 use Rattle.graph.proofs.Rank.{rank, rank-up}
 use Rattle.graph.proofs.Long.{longest-bounds, longest-reached}
 use Rattle.table.specs.declared.Table.{Table}
 use Rattle.table.specs.Memory.{vertices, D, T, succ, edgeIn, cost}
-use Rattle.table.specs.Good.{GoodTask, GoodTable}
+use Rattle.table.specs.Good.{GoodTable}
 use Rattle.verdict.specs.Verdicts.{vol, len, roundedUp, due}
 
 -- ---- sums

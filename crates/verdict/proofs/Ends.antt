@@ -1,15 +1,14 @@
 -- Both ends of the margin's range are exact: the low end is some file's margin, and 7,999,992, the most that `margin-high` allows, another's.
 use mathlib.Core.Path.{_≡_, refl}
 use mathlib.Core.List.{List, [], _∷_, _++_}
-use Prim.Native.Nat.{ℕ, zero, suc, _+_}
-use lib.IntN.{ℤ, pos}
+use Prim.Native.Nat.{ℕ, suc, _+_}
+use lib.IntN.{pos}
 use Rattle.graph.specs.Words.{bit, sum, all, rowFrom, row, largest, alsoIf, those, thoseBelow, lowest, joinFrom, inOrder, firstOr, lowestOr}
 use Rattle.graph.specs.Graph.{edge, still, hasPred, sweepFrom, sweep, sweeps, total, acyclicAmong, acyclic, oneMore, longestFrom, maximum, longest}
 use Rattle.table.specs.Memory.{noSucc, zeroTask, noTasks, noRow, noTable, noTask, task, vertices, D, T, succ, edgeIn, cost}
 use Rattle.table.specs.Numbers.{number, place}
 use Rattle.table.specs.Reading.{field, markAt, ranged, byteAt, value4, ticksAt, notUnder, periodAt, edgeOk, edgeAt, costsAt, addEdge, edgesAt, badTask, partsAt, taskAt, badTable, withTask, tasksAt, tableAt, refused, ending, read}
 use Rattle.table.specs.Writing.{bytes4}
-use Rattle.verdict.specs.declared.Verdict.{Verdict}
 use Rattle.verdict.specs.Verdicts.{vol, len, roundedUp, due, margin, naming, verdictOn, unread, verdictRead, verdict}
 use Rattle.verdict.proofs.Margins.{lowEnd}
 
