@@ -1,0 +1,30 @@
+use Prim.Native.Nat.{ℕ, _+_, _*_, _-_, _≤_}
+use native.Mathlib.Omega.{arith}
+use mathlib.Core.Path.{_≡_, refl}
+use Rattle.verdict.specs.Verdicts.{roundedUp}
+use Rattle.verdict.proofs.Amounts.{up-most}
+use borrow.Author.Needs.{needs}
+use Rattle.verdict.proofs.figuring.rounded_up.Statement.{statement}
+use Rattle.verdict.proofs.figuring.rounded_up.Tie as tie
+use Rattle.verdict.proofs.figuring.rounded_up.Reads as reads
+use Rattle.verdict.proofs.figuring.rounded_up.Lts as lts
+
+sub-result : tie.Need-sub-result
+sub-result c = search needs
+
+add-result : tie.Need-add-result
+add-result c = search needs
+
+div-result : tie.Need-div-result
+div-result c = search needs
+
+cast-result : tie.Need-cast-result
+unfolding roundedUp
+cast-result c = omega (arith, up-most (c .args .d) (c .args .t) (c .pre .1))
+
+returns : tie.Need-returns
+unfolding roundedUp
+returns c = (refl, omega (arith, up-most (c .args .d) (c .args .t) (c .pre .1)))
+
+pub rounded-up-spec : {M : Type 1} → statement M
+rounded-up-spec = tie.close (tie.spec sub-result add-result div-result cast-result returns)
