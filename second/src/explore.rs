@@ -20,8 +20,10 @@ pub enum Rule {
     Verdict,
     /// Every table.
     SayYes,
-    /// Margins down to -1 pass.
+    /// Margins down to -1 pass: a miss is found on one processor only.
     MarginLess,
+    /// Margins down to -m pass: a miss is found for each m.
+    MarginLessM,
     /// D over T rounded down.
     RoundDown,
 }
@@ -36,6 +38,7 @@ pub fn accepts(rule: Rule, table: &Table) -> bool {
         Rule::Verdict => crate::verdict::judge(table).number == 0,
         Rule::SayYes => true,
         Rule::MarginLess => least(|table, k| figures(table, k).margin) >= -1,
+        Rule::MarginLessM => least(|table, k| figures(table, k).margin) >= -i64::from(table.m),
         Rule::RoundDown => least(margin_rounded_down) >= 0,
     }
 }

@@ -6,6 +6,7 @@ use second::legal::is_legal;
 use second::machine::*;
 use second::random::*;
 use second::table::Table;
+use second::verdict::figures;
 
 fn first_wrong(rule: Rule, seed: u64, tables: u32) -> (u32, Option<(Table, Found)>) {
     let r = &mut Random::new(seed);
@@ -32,13 +33,44 @@ fn accepted_tables_never_miss() {
 
 #[test]
 fn a_weakened_rule_misses() {
-    for rule in [Rule::SayYes, Rule::MarginLess, Rule::RoundDown] {
+    for rule in [
+        Rule::SayYes,
+        Rule::MarginLess,
+        Rule::MarginLessM,
+        Rule::RoundDown,
+    ] {
         let (at, wrong) = first_wrong(rule, 62, 4_000);
         let (table, found) = wrong.expect("a miss");
         let Some((Wrong::Miss(task), run)) = found.wrong else {
             panic!("{rule:?}: not a miss in table {at}");
         };
         replay(&table, task, &run);
+    }
+}
+
+/// Seen, not promised: among these tables the least margins from 1 - m on
+/// never miss, those of -m do. So accepting -1 is told only on one processor.
+#[test]
+fn the_first_margin_that_misses_is_minus_m() {
+    let mut seen = KeySet::new();
+    let mut missed = [[0u32; 4]; 4];
+    let mut looked = missed;
+    small_tables(4, |table| {
+        let margins = (0..usize::from(table.n)).map(|k| figures(table, k).margin);
+        let below = -margins.min().unwrap();
+        if (1..=i64::from(table.m)).contains(&below) {
+            let found = explore(table, &mut seen);
+            let at = (usize::from(table.m), below as usize);
+            looked[at.0][at.1] += 1;
+            missed[at.0][at.1] += u32::from(found.wrong.is_some());
+        }
+        true
+    });
+    for m in 1..4 {
+        for below in 1..=m {
+            assert!(looked[m][below] > 300, "{looked:?}");
+            assert_eq!(missed[m][below] > 0, below == m, "{missed:?}");
+        }
     }
 }
 

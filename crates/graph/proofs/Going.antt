@@ -1,13 +1,13 @@
 -- The starts along the elimination order: each is the sum of a chain, and no edge from a vertex that is out leads to an earlier start.
-use mathlib.Core.Path.{_≡_, refl, sym, ap, _∙_}
+use mathlib.Core.Path.{_≡_, refl, sym, _∙_}
 use mathlib.Core.Logic.{_⊎_, inl, inr, ⊎-elim}
 use mathlib.Core.Bool.{Bool, true, false}
 use mathlib.Core.List.{List, [], _∷_}
-use Prim.Native.Nat.{ℕ, zero, suc, _+_, _≤_, _<_, max}
+use Prim.Native.Nat.{ℕ, _+_, _≤_, _<_}
 use native.Mathlib.Omega.{arith}
 use native.Mathlib.Decide.{ℕ-discrete, decLe}
 use lib.ListN.{length, getD}
-use Rattle.graph.specs.Words.{pick, largest, isIn}
+use Rattle.graph.specs.Words.{largest, isIn}
 use Rattle.graph.specs.Graph.{edge, acyclic, Chain, alone, joined, sumAlong, longest}
 use Rattle.graph.specs.Order.{passed, passedAll}
 use Rattle.graph.proofs.Facts.{clash, off-when, largest-most, largest-some, first-in, other-in, tail-in}

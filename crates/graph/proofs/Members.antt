@@ -6,13 +6,12 @@ use Prim.Native.Nat.{ℕ, zero, suc, _+_, _^_, _-_, _*_, _%_, _≤_, _<_}
 use native.Mathlib.Omega.{arith}
 use native.Mathlib.Decide.{ℕ-discrete, decLt}
 use lib.ListN.{length}
-use lib.Dec.{eqb, lit<}
+use lib.Dec.{eqb}
 use lib.Bits.{bitAnd}
 use lib.Count.{trailingZeros}
 use borrow.Author.Tests.{eq-eqb, ne-eqb}
-use Rattle.graph.specs.Words.{pick, bit, rowFrom, row, alsoIf, those, thoseBelow, members, lowest, isIn, isNone}
+use Rattle.graph.specs.Words.{bit, rowFrom, row, alsoIf, those, thoseBelow, members, lowest, isIn, isNone}
 use Rattle.graph.proofs.Facts.{clash, length-row, below-pass, below-all, lowest-is, lowest-none, off-when}
-use Rattle.graph.proofs.Lists.{none-in}
 use Rattle.graph.proofs.Bits as B
 
 -- ---- those that pass a test

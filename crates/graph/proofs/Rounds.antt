@@ -2,26 +2,24 @@
 use mathlib.Core.Path.{_≡_, refl, sym, ap, _∙_}
 use mathlib.Core.Logic.{_⊎_, inl, inr, ⊎-elim}
 use mathlib.Core.Bool.{Bool, true, false, not, _&&_}
-use mathlib.Core.List.{List, [], _∷_}
+use mathlib.Core.List.{List}
 use Prim.Native.Nat.{ℕ, zero, suc, _+_, _-_, _*_, _^_, _≤_, _<_}
 use native.Mathlib.Omega.{arith}
 use native.Mathlib.Nat.{zero-add}
-use native.Mathlib.Decide.{decLt}
 use lib.ListN.{length, getD, replicate}
 use lib.Bits.{bitAnd, and-le-l}
-use lib.Dec.{eqb}
 use borrow.Author.Tests.{eq-eqb, ne-eqb}
-use Rattle.graph.specs.Words.{pick, bit, row, members, largest, isIn, anyOf}
-use Rattle.graph.specs.Graph.{edge, ledTo, acyclic, longest, longestOf}
+use Rattle.graph.specs.Words.{bit, members, largest, isIn}
+use Rattle.graph.specs.Graph.{edge, ledTo, acyclic, longestOf}
 use Rattle.graph.specs.Order.{passedAll}
 use Rattle.graph.proofs.Facts.{clash, both-true, off-when, length-row, row-in}
 use Rattle.graph.proofs.Lists.{some-any}
 use Rattle.graph.proofs.Bits.{bit-zero, bit-and}
-use Rattle.graph.proofs.Members.{members-and, members-full, those-split, held-below, held-in, in-held, in-members, bit-without, members-without}
+use Rattle.graph.proofs.Members.{members-and, members-full, those-split, held-in, in-held, in-members, bit-without, members-without}
 use Rattle.graph.proofs.Settle.{comesToNone, all-in, round-on, round-end}
 use Rattle.graph.proofs.Rank.{led-below}
 use Rattle.graph.proofs.Order.{Room, passedAll-room}
-use Rattle.graph.proofs.Going.{Reaches, here, Going, fewer-out, all-out, largest-is}
+use Rattle.graph.proofs.Going.{here, Going, fewer-out, all-out, largest-is}
 
 pub record Round (succ times : List ℕ) (left : ℕ) (starts : List ℕ) : Type 0 where
   pub bits : left < 2 ^ 16

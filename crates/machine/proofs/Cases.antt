@@ -1,10 +1,10 @@
 -- The tick case by case, for every table, every state, every release set and every way to choose: its refusals in their order, then
 -- steps 4 to 6.
-use mathlib.Core.Path.{_≡_, refl, sym, ap, _∙_}
-use mathlib.Core.Logic.{_⊎_, inl, inr, ⊎-elim}
+use mathlib.Core.Path.{_≡_, refl, _∙_}
+use mathlib.Core.Logic.{⊎-elim}
 use mathlib.Core.Bool.{Bool, true, false, _&&_}
 use mathlib.Core.List.{List}
-use Prim.Native.Nat.{ℕ, _≤_, _<_}
+use Prim.Native.Nat.{ℕ}
 use native.Mathlib.Omega.{arith}
 use lib.Dec.{ltb, leb}
 use Rattle.graph.specs.Words.{pick, bit, lowestOr}
@@ -17,7 +17,8 @@ use Rattle.machine.specs.States.{wait, zeros}
 use Rattle.machine.specs.Steps.{released, worked, ended, finished, missed}
 use Rattle.machine.specs.Fitting.{fits}
 use Rattle.machine.specs.Ticking.{ticked, judged, advanceTo, advance, refuse, whenRunning, tickOn}
-use Rattle.machine.proofs.Lowest.{Lowest, None, lowest-cases}
+use Rattle.graph.proofs.Facts.{lowestOr-none}
+use Rattle.machine.proofs.Lowest.{Lowest, None, lowestOr-is, lowest-cases}
 
 pub running-stopped : (p : Phase) (k : ℕ) → p ≡ Running → p ≡ Stopped k → ⊥
 running-stopped p k e q = let z : _≡_ {A = ℕ} 0 1 = cc in omega arith
@@ -98,3 +99,35 @@ module _ (choose : Table → State → List ℕ) (t : Table) (st : State) (named
       by true f Running r = goes f r inner refl
       by true f (Stopped k) r = halted f k r refl
       by false f p r = unfit f refl
+
+  -- ---- and each case has its answer
+  pub unfit-30 : fits t st ≡ false → tickOn choose t st named ≡ refuse st 30 0 255
+  unfolding tickOn
+  unfit-30 e = rw e refl
+
+  pub stopped-32 : fits t st ≡ true → (k : ℕ) → st .phase ≡ Stopped k → tickOn choose t st named ≡ refuse st 32 0 255
+  unfolding tickOn whenRunning
+  stopped-32 e k p = rw (e, p) refl
+
+  -- what follows where it fits and runs
+  on-going : (f : fits t st ≡ true) (r : st .phase ≡ Running) → tickOn choose t st named ≡ going f r
+  unfolding tickOn whenRunning beyond tooSoon
+  on-going f r = rw (f, r) refl
+
+  pub beyond-31 : fits t st ≡ true → st .phase ≡ Running → (i : ℕ) → Lowest 16 (beyond t named) i → tickOn choose t st named ≡ refuse st 31 0 i
+  beyond-31 f r i l = on-going f r ∙ lowestOr-is 16 (beyond t named) _ _ i l
+
+  pub early-33 : fits t st ≡ true → st .phase ≡ Running → None 16 (beyond t named) → (i : ℕ) → Lowest (t .n) (tooSoon st named) i → tickOn choose t st named ≡ refuse st 33 0 i
+  early-33 f r n i l = on-going f r ∙ lowestOr-none 16 (beyond t named) _ _ n ∙ lowestOr-is (t .n) (tooSoon st named) _ _ i l
+
+  pub admitted-advances : Admitted → tickOn choose t st named ≡ advance t st named chosenIn
+  admitted-advances a = on-going (a .fitting) (a .running) ∙ lowestOr-none 16 (beyond t named) _ _ (a .tasks) ∙ lowestOr-none (t .n) (tooSoon st named) _ _ (a .free)
+
+  pub misses-34 : Admitted → (i : ℕ) → Lowest 16 (missed afterEnds) i
+      → tickOn choose t st named ≡ ticked 34 i chosenIn (finished afterWork) (zeros (afterEnds .clock) (Stopped i))
+  unfolding advance advanceTo judged
+  misses-34 a i l = admitted-advances a ∙ lowestOr-is 16 (missed afterEnds) _ _ i l
+
+  pub goes-0 : Admitted → None 16 (missed afterEnds) → tickOn choose t st named ≡ ticked 0 255 chosenIn (finished afterWork) afterEnds
+  unfolding advance advanceTo judged
+  goes-0 a n = admitted-advances a ∙ lowestOr-none 16 (missed afterEnds) _ _ n

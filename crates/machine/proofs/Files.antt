@@ -1,10 +1,8 @@
 -- The same of a file's bytes: what opening and ticks give from a file that is read fits its table.
 use mathlib.Core.Path.{_≡_, refl, sym, ap, subst, _∙_}
-use mathlib.Core.Bool.{Bool, true, false}
+use mathlib.Core.Bool.{Bool, true}
 use mathlib.Core.List.{List}
-use Prim.Native.Nat.{ℕ, _^_, _≤_, _<_}
-use native.Mathlib.Omega.{arith}
-use Rattle.graph.proofs.Facts.{clash}
+use Prim.Native.Nat.{ℕ, _^_, _<_}
 use Rattle.table.specs.declared.Outcome.{Outcome}
 use Rattle.table.specs.declared.Outcome.the-variants.{Read}
 use Rattle.table.specs.declared.Table.{Table}
@@ -19,11 +17,12 @@ use Rattle.machine.specs.declared.Ticked.{Ticked}
 use Rattle.machine.specs.States.{zeros, unopened, openRead, opening}
 use Rattle.machine.specs.Steps.{released, ownChoice, Legal}
 use Rattle.machine.specs.Fitting.{fits}
-use Rattle.machine.specs.Ticking.{refuse, tickOn, tickRead, tickBy, tick}
+use Rattle.machine.specs.Ticking.{refuse, tickOn, tickBy, tick}
 use Rattle.machine.proofs.Own.{own-legal}
+use Rattle.machine.proofs.Cases.{stopped-32, unfit-30}
 use Rattle.machine.proofs.Fitted.{InRange}
 use Rattle.machine.proofs.Keeping.{Keeps, zeros-range, opened-fits, legal-tick-keeps}
-use Rattle.machine.proofs.Refusing.{on-table, stopped-32, unfit-30, unopened-unfit}
+use Rattle.machine.proofs.Refusing.{on-table, unopened-unfit}
 
 module _ (s : List ℕ) (well : read s .outcome ≡ Read) where
   -- opening a file that is read: number 0, place 0, task 255, and all tasks idle with wait 0

@@ -1,17 +1,17 @@
 -- A running state that fits, whose clock and deadlines are of 32 bits, stands; so fitting and standing are the same.
-use mathlib.Core.Path.{_≡_, refl, sym, ap, _∙_}
-use mathlib.Core.Bool.{Bool, true, false}
-use Prim.Native.Nat.{ℕ, _+_, _-_, _^_, _≤_, _<_}
+use mathlib.Core.Path.{_≡_}
+use mathlib.Core.Bool.{Bool, true}
+use Prim.Native.Nat.{ℕ, _^_, _<_}
 use native.Mathlib.Omega.{arith}
 use native.Mathlib.Decide.{decLt}
 use Rattle.graph.proofs.Facts.{off-when}
 use Rattle.table.specs.declared.Table.{Table}
-use Rattle.table.specs.Memory.{vertices, D, T, edgeIn, cost}
+use Rattle.table.specs.Memory.{vertices, D, T}
 use Rattle.table.specs.Good.{GoodTask, GoodTable}
 use Rattle.machine.specs.declared.Phase.{Phase}
 use Rattle.machine.specs.declared.Phase.the-variants.{Running}
 use Rattle.machine.specs.declared.State.{State}
-use Rattle.machine.specs.States.{live, wait, deadline, remaining, left}
+use Rattle.machine.specs.States.{live, deadline}
 use Rattle.machine.specs.Steps.{clear}
 use Rattle.machine.specs.Fitting.{fits}
 use Rattle.machine.proofs.Clauses.{LiveFits, IdleFits, ZeroTask, live-task, idle-task, unused-task}

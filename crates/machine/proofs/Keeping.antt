@@ -1,6 +1,6 @@
--- Opening fits, and a tick keeps a state fitting: for every good table, every state and every legal choice.
-use mathlib.Core.Path.{_≡_, refl, sym, ap, subst, _∙_}
-use mathlib.Core.Logic.{_⊎_, inl, inr}
+-- Opening fits, and a tick keeps a state fitting: for every good table, every state and every legal choice. Of the numbers' types it is
+-- needed that the clock and the live jobs' deadlines are below 2 ^ 32 (`InRange`) and the release set below 2 ^ 16.
+use mathlib.Core.Path.{_≡_, refl, sym, subst, _∙_}
 use mathlib.Core.Bool.{Bool, true, false, _&&_}
 use mathlib.Core.List.{List}
 use Prim.Native.Nat.{ℕ, _+_, _/_, _%_, _^_, _≤_, _<_}
@@ -8,9 +8,8 @@ use native.Mathlib.Omega.{arith}
 use native.Mathlib.Decide.{decLt}
 use native.Mathlib.Nat.{div-eq-of-lt}
 use lib.Pow.{pow-mono}
-use lib.Dec.{ltb, leb, eqb}
 use borrow.Author.Tests.{lt-ltb, ltb-false, leb-false, eqb-true}
-use Rattle.graph.specs.Words.{pick, bit, all, isIn}
+use Rattle.graph.specs.Words.{bit, isIn}
 use Rattle.graph.proofs.Facts.{clash, both-true, and-true, all-of, below-pass}
 use Rattle.table.specs.declared.Table.{Table}
 use Rattle.table.specs.Good.{GoodTask, GoodTable}
@@ -19,7 +18,7 @@ use Rattle.machine.specs.declared.Phase.the-variants.{Running, Stopped}
 use Rattle.machine.specs.declared.State.{State}
 use Rattle.machine.specs.declared.Ticked.{Ticked}
 use Rattle.machine.specs.States.{live, wait, deadline, left, zeros}
-use Rattle.machine.specs.Steps.{released, available, availables, nothingLeft, worked, ended, finished, missed, Legal, ownChoice}
+use Rattle.machine.specs.Steps.{released, available, availables, finished, missed, Legal, ownChoice}
 use Rattle.machine.specs.Fitting.{zeroTaskIn, fitsPhase, fits}
 use Rattle.machine.specs.Ticking.{ticked, refuse, tickOn}
 use Rattle.machine.proofs.Index.{not-missed, wrap-small, zeros-live, zeros-wait, zeros-remaining}

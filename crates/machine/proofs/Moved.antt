@@ -1,7 +1,7 @@
 -- What a tick makes of a state, by task and vertex, where it answers 0 or 34: for every table, state, release set and way to choose.
 use mathlib.Core.Path.{_≡_, refl, sym, ap, subst, _∙_}
 use mathlib.Core.Logic.{_⊎_, ⊎-elim}
-use mathlib.Core.Bool.{Bool, true, false}
+use mathlib.Core.Bool.{Bool}
 use mathlib.Core.List.{List}
 use Prim.Native.Nat.{ℕ, _+_, _*_, _-_, _≤_, _<_}
 use native.Mathlib.Omega.{arith}
@@ -13,7 +13,7 @@ use Rattle.machine.specs.declared.Phase.the-variants.{Running, Stopped}
 use Rattle.machine.specs.declared.State.{State}
 use Rattle.machine.specs.declared.Ticked.{Ticked}
 use Rattle.machine.specs.States.{wait, remaining, wrap, zeros}
-use Rattle.machine.specs.Steps.{released, worked, ended, finished}
+use Rattle.machine.specs.Steps.{released, finished}
 use Rattle.machine.specs.Ticking.{runList, ticked, refuse, tickOn}
 use Rattle.machine.proofs.Index.{released-clock, released-wait, released-remaining, worked-clock, worked-wait, worked-remaining, ended-clock, ended-wait, ended-remaining}
 use Rattle.machine.proofs.Cases.{chosenIn, afterWork, afterEnds, Case, unfit, halted, no-task, early, misses, goes-on, cases}

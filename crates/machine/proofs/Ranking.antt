@@ -1,16 +1,13 @@
 -- The machine's own choice is the first m of the one ranking of the available vertices: by ticks left, then task, then vertex.
 use mathlib.Core.Path.{_≡_, refl, sym, ap, subst, _∙_}
-use mathlib.Core.Logic.{_⊎_, inl, inr, ⊎-elim}
-use mathlib.Core.Bool.{Bool, true, false, _&&_, _||_}
+use mathlib.Core.Bool.{Bool, true, false}
 use mathlib.Core.List.{List, [], _∷_}
-use Prim.Native.Nat.{ℕ, zero, suc, _+_, _/_, _%_, _≤_, _<_}
+use Prim.Native.Nat.{ℕ, _/_, _<_}
 use native.Mathlib.Omega.{arith}
-use native.Mathlib.Decide.{ℕ-discrete, decLt}
-use lib.ListN.{length, take}
-use lib.Dec.{ltb, eqb}
-use borrow.Author.Tests.{lt-ltb, ltb-true, ltb-false, eq-eqb, eqb-true, eqb-false}
+use native.Mathlib.Decide.{ℕ-discrete}
+use lib.ListN.{take}
 use Rattle.graph.specs.Words.{pick, isIn, Distinct}
-use Rattle.graph.proofs.Facts.{clash, both-true, and-true, off-when, first-in, other-in, tail-in, below-pass, below-all}
+use Rattle.graph.proofs.Facts.{clash, off-when, first-in, other-in, tail-in, below-pass, below-all}
 use Rattle.table.specs.declared.Table.{Table}
 use Rattle.machine.specs.declared.State.{State}
 use Rattle.machine.specs.States.{left}

@@ -1,12 +1,12 @@
 -- A tick's refusals and the parts of its reply: for every file, table, state, release set and way to choose.
-use mathlib.Core.Path.{_≡_, refl, sym, ap, subst, _∙_}
+use mathlib.Core.Path.{_≡_, refl, sym, ap, subst}
 use mathlib.Core.Logic.{_⊎_, inl, inr, ⊎-elim}
-use mathlib.Core.Bool.{Bool, true, false, _&&_}
+use mathlib.Core.Bool.{Bool, true, false}
 use mathlib.Core.List.{List}
 use Prim.Native.Nat.{ℕ, _≤_, _<_}
 use native.Mathlib.Omega.{arith}
-use Rattle.graph.specs.Words.{pick, bit, all, row, lowestOr}
-use Rattle.graph.proofs.Facts.{clash, off-when}
+use Rattle.graph.specs.Words.{row}
+use Rattle.graph.proofs.Facts.{off-when}
 use Rattle.table.specs.declared.Outcome.{Outcome}
 use Rattle.table.specs.declared.Outcome.the-variants.{Read, Short, Mark, Range, Ticks, Order, Edge, Cycle, Extra}
 use Rattle.table.specs.declared.Table.{Table}
@@ -157,15 +157,6 @@ module _ (choose : Table → State → List ℕ) (t : Table) (st : State) (named
       go x (misses a i l q) = subst (Replies choose t st named) (sym q) (says-34 i l _ _ _)
       go x (goes-on a n q) = subst (Replies choose t st named) (sym q) (says-0 _ _ _)
 
-  -- 30: a state that does not fit; 32: a stopped one that fits
-  pub unfit-30 : fits t st ≡ false → tickOn choose t st named ≡ refuse st 30 0 255
-  unfolding tickOn
-  unfit-30 e = rw e refl
-
-  pub stopped-32 : fits t st ≡ true → (k : ℕ) → st .phase ≡ Stopped k → tickOn choose t st named ≡ refuse st 32 0 255
-  unfolding tickOn whenRunning
-  stopped-32 e k p = rw (e, p) refl
-
 -- THE REFUSALS of a tick that takes bytes, in one statement
 module _ (choose : Table → State → List ℕ) (s : List ℕ) (st : State) (named : ℕ) where
   abbrev answered : Ticked
@@ -181,14 +172,51 @@ module _ (choose : Table → State → List ℕ) (s : List ℕ) (st : State) (na
   unfolding tickBy tickRead
   on-table e = ap (λ (o : Outcome). whenRead o (λ o. refuse st (number o) (place o) 255) (λ _. tickOn choose (read s .table) st named)) e
 
+  -- what holds of a tick on the file's table and of a refused reading holds of the tick
+  either-way : (P : Ticked → Type 0) → (read s .outcome ≡ Read → P (tickOn choose (read s .table) st named))
+      → ((read s .outcome ≡ Read → ⊥) → P (refuse st (number (read s .outcome)) (place (read s .outcome)) 255)) → P answered
+  either-way P f g = ⊎-elim
+      (λ e. subst P (sym (on-table e)) (f e))
+      (λ h. subst P (sym (unread h)) (g h))
+      (read-or-not (read s .outcome))
+
+  -- "the place is 0 except for reading's numbers", 1 to 8
+  pub place-zero : (answered .answer .reply .number ≡ 0) ⊎ (9 ≤ answered .answer .reply .number) → answered .answer .reply .place ≡ 0
+  unfolding refuse
+  place-zero = either-way (λ x. (x .answer .reply .number ≡ 0) ⊎ (9 ≤ x .answer .reply .number) → x .answer .reply .place ≡ 0)
+      (λ e n. replies choose (read s .table) st named .place)
+      (λ h n. let b = refusal-number (read s .outcome) h in absurd (⊎-elim (λ k. omega (arith, b .0)) (λ k. omega (arith, b .1)) n))
+
+  -- "the task 255 except for 31, 33 and 34"
+  pub task-255 : (answered .answer .reply .number ≡ 31 → ⊥) → (answered .answer .reply .number ≡ 33 → ⊥) → (answered .answer .reply .number ≡ 34 → ⊥)
+      → answered .answer .reply .task ≡ 255
+  unfolding refuse
+  task-255 = either-way (λ x. (x .answer .reply .number ≡ 31 → ⊥) → (x .answer .reply .number ≡ 33 → ⊥) → (x .answer .reply .number ≡ 34 → ⊥) → x .answer .reply .task ≡ 255)
+      (λ e. replies choose (read s .table) st named .task)
+      (λ h a b c. refl)
+
   -- a tick that is not answered 0 or 34 returns the same state, eight unused places and the empty set
   pub refused-tick : (answered .answer .reply .number ≡ 0 → ⊥) → (answered .answer .reply .number ≡ 34 → ⊥) → Refused st answered
-  refused-tick = ⊎-elim
-      (λ e. subst (λ (x : Ticked). (x .answer .reply .number ≡ 0 → ⊥) → (x .answer .reply .number ≡ 34 → ⊥) → Refused st x) (sym (on-table e))
-      (replies choose (read s .table) st named .refuses))
-      (λ h. subst (λ (x : Ticked). (x .answer .reply .number ≡ 0 → ⊥) → (x .answer .reply .number ≡ 34 → ⊥) → Refused st x) (sym (unread h))
-      (λ a b. refuse-refused st _ _ 255))
-      (read-or-not (read s .outcome))
+  refused-tick = either-way (λ x. (x .answer .reply .number ≡ 0 → ⊥) → (x .answer .reply .number ≡ 34 → ⊥) → Refused st x)
+      (λ e. replies choose (read s .table) st named .refuses)
+      (λ h a b. refuse-refused st _ _ 255)
+
+-- OPENING'S REPLY is reading's number and place, 0 and 0 where it read; its task is 255
+pub opening-reply : (s : List ℕ) (clock : ℕ) → opening s clock .reply ≡ record { number = number (read s .outcome); place = place (read s .outcome); task = 255 }
+unfolding opening openRead unopened number place
+opening-reply s clock = go (read s .outcome)
+  where
+    go : (o : Outcome) → whenRead o unopened (λ _. record { reply = record { number = 0; place = 0; task = 255 }; state = zeros clock Running }) .reply
+        ≡ record { number = number o; place = place o; task = 255 }
+    go Read = refl
+    go (Short p) = refl
+    go (Mark p) = refl
+    go (Range p) = refl
+    go (Ticks p) = refl
+    go (Order p) = refl
+    go (Edge p) = refl
+    go (Cycle p) = refl
+    go (Extra p) = refl
 
 -- A REFUSED OPENING: reading's number and place, task 255, a state of zeros that is stopped at task 255
 pub opening-refused : (s : List ℕ) (clock : ℕ) → (read s .outcome ≡ Read → ⊥) → opening s clock ≡ unopened (read s .outcome)

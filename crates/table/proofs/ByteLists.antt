@@ -11,7 +11,7 @@ use Rattle.table.specs.Memory.{vertices, D, T, cost}
 use Rattle.table.specs.Writing.{bytes4, edgeKeys, edgeBytes, encodeTask, encode}
 use Rattle.table.specs.Good.{GoodTable}
 use Rattle.table.proofs.FieldBytes.{Bytes}
-use Rattle.table.proofs.Keys.{key-edge}
+use Rattle.table.proofs.EdgeKeys.{key-edge}
 
 -- the same by the list
 unfoldable pub AllBytes : List ℕ → Type 0

@@ -47,7 +47,7 @@ edges-are v hv s zero at low succ r h e = record {
 }
 edges-are v hv s (suc k) at low succ r h e =
     let g = on-field (λ (x : EdgesRead). x .outcome) (λ o. record { outcome = o; succ = succ }) (λ o. refl)
-    (edgeAt v low s at) (edge-view v low s at hv) (λ key. edgesAt v s k (at + 2) (key + 1) (addEdge succ key)) r h e in
+    (edgeAt v low s at) (edge-view v low s at hv) _ r h e in
     let key = g .0 in
     let w = edge-is v low s at key hv (g .1) in
     let i = edges-are v hv s k (at + 2) (key + 1) (addEdge succ key) r h (g .3) in

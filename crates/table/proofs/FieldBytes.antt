@@ -1,5 +1,6 @@
 -- The bytes of a field that was read.
 use mathlib.Core.Path.{_≡_, refl, sym, ap, _∙_}
+use mathlib.Core.Logic.{⊎-elim}
 use mathlib.Core.Bool.{Bool, true, false, _&&_, not}
 use mathlib.Core.List.{List, _∷_, _++_}
 use Prim.Native.Nat.{ℕ, _+_, _*_, _/_, _%_, _≤_, _<_}
@@ -17,6 +18,7 @@ use Rattle.graph.specs.Words.{pick}
 use Rattle.graph.proofs.Facts.{both-true}
 use Rattle.table.specs.Reading.{field, markAt, ranged, byteAt, value4, ticksAt, notUnder, periodAt, edgeOk, edgeAt}
 use Rattle.table.specs.Writing.{bytes4}
+use Rattle.table.proofs.FieldViews.{field-cases}
 
 -- each number is a byte
 abbrev pub Bytes : List ℕ → Type 0
@@ -30,12 +32,7 @@ pub stop-got : {X : Type 0} (o : Outcome) (x : ℕ) → Stop o ≡ Got x → X
 stop-got o x e = let z : _≡_ {A = ℕ} 0 1 = cc in absurd (omega arith)
 
 pub field-got : (size : ℕ) (s : List ℕ) (at : ℕ) (rules : Field) (x : ℕ) → field size s at rules ≡ Got x → (at + size ≤ length s) × (rules ≡ Got x)
-unfolding field
-field-got size s at rules x e = go (leb (at + size) (length s)) refl e
-  where
-    go : (b : Bool) → leb (at + size) (length s) ≡ b → pick b rules (Stop (Short at)) ≡ Got x → (at + size ≤ length s) × (rules ≡ Got x)
-    go true h e = (leb-true _ _ h, e)
-    go false h e = stop-got (Short at) x e
+field-got size s at rules x e = ⊎-elim (λ z. (z .0, sym (z .1) ∙ e)) (λ z. stop-got (Short at) x (sym (z .1) ∙ e)) (field-cases size s at rules)
 
 pub pick-got : (b : Bool) (y : ℕ) (o : Outcome) (x : ℕ) → pick b (Got y) (Stop o) ≡ Got x → (b ≡ true) × (y ≡ x)
 pick-got true y o x e = (refl, cc)

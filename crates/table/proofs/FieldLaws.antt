@@ -8,7 +8,7 @@ use borrow.Author.Tests.{le-leb, lt-leb, leb-true, lt-ltb, le-ltb, ltb-true, eq-
 use lib.ListN.{length, getD}
 use lib.Dec.{ltb, leb, eqb}
 use Rattle.table.specs.declared.Outcome.{Outcome}
-use Rattle.table.specs.declared.Outcome.the-variants.{Read, Short, Mark, Range, Ticks, Order, Edge, Cycle, Extra}
+use Rattle.table.specs.declared.Outcome.the-variants.{Read, Short, Mark, Range, Ticks, Order, Edge}
 use Rattle.table.specs.declared.Field.{Field}
 use Rattle.table.specs.declared.Field.the-variants.{Stop, Got}
 use Rattle.graph.specs.Words.{pick}
@@ -78,9 +78,9 @@ module _ (b : ℕ) (s : List ℕ) (at : ℕ) where
   unfolding markAt
   mark-second h p q = field-within 2 s at _ _ h (simp (eq-eqb _ _ p, ne-eqb _ _ q))
 
-  pub mark-read : (x : ℕ) → markAt b s at ≡ Got x → at + 2 ≤ length s
+  pub mark-read : (f : Field) (x : ℕ) → f ≡ markAt b s at → f ≡ Got x → at + 2 ≤ length s
   unfolding markAt
-  mark-read x e = field-read 2 s at _ x e .0
+  mark-read f x h e = field-read 2 s at _ x (sym h ∙ e) .0
 
 -- ---- m, n, v or e
 module _ (lo hi : ℕ) (s : List ℕ) (at : ℕ) where
@@ -92,10 +92,10 @@ module _ (lo hi : ℕ) (s : List ℕ) (at : ℕ) where
   unfolding byteAt
   byte-within x f h q e = field-within 1 s at _ f h (e ∙ ap (ranged Range lo hi at) q)
 
-  pub byte-read : (x : ℕ) → byteAt lo hi s at ≡ Got x → (at + 1 ≤ length s) × (lo ≤ x) × (x ≤ hi)
+  pub byte-read : (f : Field) (x : ℕ) → f ≡ byteAt lo hi s at → f ≡ Got x → (at + 1 ≤ length s) × (lo ≤ x) × (x ≤ hi)
   unfolding byteAt
-  byte-read x e =
-      let r = field-read 1 s at _ x e in
+  byte-read f x h e =
+      let r = field-read 1 s at _ x (sym h ∙ e) in
       let q = ranged-read Range lo hi at (getD s at 0) x (r .1) in
       (r .0, q .1, q .2)
 
@@ -109,10 +109,10 @@ module _ (s : List ℕ) (at : ℕ) where
   unfolding ticksAt
   ticks-within x f h q e = field-within 4 s at _ f h (e ∙ ap (ranged Ticks 1 1000000 at) q)
 
-  pub ticks-read : (x : ℕ) → ticksAt s at ≡ Got x → (at + 4 ≤ length s) × (1 ≤ x) × (x ≤ 1000000)
+  pub ticks-read : (f : Field) (x : ℕ) → f ≡ ticksAt s at → f ≡ Got x → (at + 4 ≤ length s) × (1 ≤ x) × (x ≤ 1000000)
   unfolding ticksAt
-  ticks-read x e =
-      let r = field-read 4 s at _ x e in
+  ticks-read f x h e =
+      let r = field-read 4 s at _ x (sym h ∙ e) in
       let q = ranged-read Ticks 1 1000000 at (value4 s at) x (r .1) in
       (r .0, q .1, q .2)
 
@@ -151,11 +151,11 @@ under-read d at t (Got x) e = go (leb d x) refl e
     go true h e = let q : x ≡ t = cc in let l = leb-true d x h in (e, omega arith)
     go false h e = let z : _≡_ {A = ℕ} 0 1 = cc in absurd (omega arith)
 
-pub period-read : (d : ℕ) (s : List ℕ) (at t : ℕ) → periodAt d s at ≡ Got t → (at + 4 ≤ length s) × (t ≤ 1000000) × (d ≤ t)
+pub period-read : (d : ℕ) (s : List ℕ) (at : ℕ) (f : Field) (t : ℕ) → f ≡ periodAt d s at → f ≡ Got t → (at + 4 ≤ length s) × (t ≤ 1000000) × (d ≤ t)
 unfolding periodAt
-period-read d s at t e =
-    let u = under-read d at t (ticksAt s at) e in
-    let r = ticks-read s at t (u .0) in
+period-read d s at f t h e =
+    let u = under-read d at t (ticksAt s at) (sym h ∙ e) in
+    let r = ticks-read s at (ticksAt s at) t refl (u .0) in
     (r .0, r .2, u .1)
 
 -- ---- an edge
@@ -204,9 +204,9 @@ module _ (v low : ℕ) (s : List ℕ) (at : ℕ) where
   unfolding edgeAt
   edge-bad from to h p q e = field-within 2 s at _ _ h (simp (← p, ← q, e))
 
-  pub edge-read : (key : ℕ) → edgeAt v low s at ≡ Got key → (at + 2 ≤ length s) × (low ≤ key) × (v ≤ 16 → key < 256)
+  pub edge-read : (f : Field) (key : ℕ) → f ≡ edgeAt v low s at → f ≡ Got key → (at + 2 ≤ length s) × (low ≤ key) × (v ≤ 16 → key < 256)
   unfolding edgeAt
-  edge-read key e = let r = field-read 2 s at _ key e in go (edgeOk v low (getD s at 0) (getD s (at + 1) 0)) refl (r .0) (r .1)
+  edge-read f key h e = let r = field-read 2 s at _ key (sym h ∙ e) in go (edgeOk v low (getD s at 0) (getD s (at + 1) 0)) refl (r .0) (r .1)
     where
       go : (b : Bool) → edgeOk v low (getD s at 0) (getD s (at + 1) 0) ≡ b → at + 2 ≤ length s
           → pick b (Got (16 * getD s at 0 + getD s (at + 1) 0)) (Stop (Edge at)) ≡ Got key → (at + 2 ≤ length s) × (low ≤ key) × (v ≤ 16 → key < 256)

@@ -1,12 +1,14 @@
 -- A field that is read is a value that keeps its rules, or a refusal; what follows a field, and a part, where all went well.
 use mathlib.Core.Path.{_≡_, refl, sym, ap, _∙_}
+use mathlib.Core.Logic.{_⊎_, inl, inr, ⊎-elim}
 use mathlib.Core.Bool.{Bool, true, false, _&&_, not}
 use mathlib.Core.List.{List}
 use Prim.Native.Nat.{ℕ, suc, _+_, _*_, _/_, _%_, _≤_, _<_}
 use native.Mathlib.Omega.{arith}
+use native.Mathlib.Decide.{decLe}
 use lib.ListN.{length, getD}
 use lib.Dec.{ltb, leb, eqb}
-use borrow.Author.Tests.{leb-true, ltb-true, eqb-false, not-true}
+use borrow.Author.Tests.{leb-true, le-leb, ltb-true, lt-leb, eqb-false, not-true}
 use Rattle.table.specs.declared.Outcome.{Outcome}
 use Rattle.table.specs.declared.Outcome.the-variants.{Read, Short, Mark, Range, Ticks, Order, Edge, Cycle, Extra}
 use Rattle.table.specs.declared.Field.{Field}
@@ -27,14 +29,20 @@ pub bad-by : (o : Outcome) (k : ℕ) → number o ≡ suc k → Bad o
 unfolding Bad number
 bad-by o k e q = let z : number o ≡ 0 = ap number q in absurd (omega arith)
 
+-- "For each field 1 is tested first": it lies within the input, or is refused at its first byte
+pub field-cases : (size : ℕ) (s : List ℕ) (at : ℕ) (rules : Field)
+    → ((at + size ≤ length s) × (field size s at rules ≡ rules)) ⊎ ((length s < at + size) × (field size s at rules ≡ Stop (Short at)))
+unfolding field
+field-cases size s at rules = cases (at + size) (length s) rules (Stop (Short at))
+  where
+    cases : (k n : ℕ) (f g : Field) → ((k ≤ n) × (pick (leb k n) f g ≡ f)) ⊎ ((n < k) × (pick (leb k n) f g ≡ g))
+    cases k n f g = elim (decLe k n) [ yes h ↦ inl (h, rw (le-leb k n h)) | no h ↦ inr (omega arith, rw (lt-leb k n (omega arith))) ]
+
 module _ (P : ℕ → Type 0) where
   field-view : (size : ℕ) (s : List ℕ) (at : ℕ) (rules : Field) → View rules P → View (field size s at rules) P
-  unfolding field number
-  field-view size s at rules v = go (leb (at + size) (length s)) v
-    where
-      go : (b : Bool) → View rules P → View (pick b rules (Stop (Short at))) P
-      go true v = v
-      go false v = halt (Short at) refl (bad-by (Short at) 0 refl)
+  unfolding number
+  field-view size s at rules v =
+      ⊎-elim (λ z. rw (z .1) v) (λ z. rw (z .1) (halt (Short at) refl (bad-by (Short at) 0 refl))) (field-cases size s at rules)
 
   pick-view : (b : Bool) (x : ℕ) (o : Outcome) → Bad o → (b ≡ true → P x) → View (pick b (Got x) (Stop o)) P
   pick-view true x o h p = value x refl (p refl)

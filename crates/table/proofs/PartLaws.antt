@@ -12,37 +12,36 @@ use Rattle.table.specs.declared.Outcome.the-variants.{Read, Short, Mark,
 use Rattle.table.specs.declared.Field.{Field}
 use Rattle.table.specs.declared.Field.the-variants.{Stop, Got}
 use Rattle.table.specs.declared.CostsRead.{CostsRead}
-use Rattle.table.specs.declared.EdgesRead.{EdgesRead}
 use Rattle.table.specs.Reading.{onward, whenRead, ticksAt, edgeAt, costsAt, addEdge, edgesAt}
-use Rattle.table.proofs.FieldLaws.{ticks-read, ticks-refused, edge-read}
+use Rattle.table.proofs.FieldLaws.{ticks-read, ticks-refused}
 
 -- ---- costs
 pub costs-end : (s : List ℕ) (k at u : ℕ) (costs : List ℕ) → k ≡ 0 → record { outcome = Read; costs = costs } ≡ costsAt s k at u costs
 unfolding costsAt
 costs-end s k at u costs h = rw h
 
-module _ (s : List ℕ) (k at u : ℕ) (costs : List ℕ) (j : ℕ) (more : k ≡ suc j) where
-  pub costs-stop : (o : Outcome) → ticksAt s at ≡ Stop o → record { outcome = o; costs = costs } ≡ costsAt s k at u costs
+module _ (s : List ℕ) (k at u : ℕ) (costs : List ℕ) (j : ℕ) (more : k ≡ suc j) (f : Field) (h : f ≡ ticksAt s at) where
+  pub costs-stop : (o : Outcome) → f ≡ Stop o → record { outcome = o; costs = costs } ≡ costsAt s k at u costs
   unfolding costsAt
-  costs-stop o e = rw (more, e)
+  costs-stop o e = rw (more, ← h, e)
 
-  pub costs-got : (x : ℕ) → ticksAt s at ≡ Got x → costsAt s j (at + 4) (u + 1) (set costs u x) ≡ costsAt s k at u costs
+  pub costs-got : (x : ℕ) → f ≡ Got x → costsAt s j (at + 4) (u + 1) (set costs u x) ≡ costsAt s k at u costs
   unfolding costsAt
-  costs-got x e = rw (more, e)
+  costs-got x e = rw (more, ← h, e)
 
 -- ---- edges
 pub edges-end : (v : ℕ) (s : List ℕ) (k at low : ℕ) (succ : List ℕ) → k ≡ 0 → record { outcome = Read; succ = succ } ≡ edgesAt v s k at low succ
 unfolding edgesAt
 edges-end v s k at low succ h = rw h
 
-module _ (v : ℕ) (s : List ℕ) (k at low : ℕ) (succ : List ℕ) (j : ℕ) (more : k ≡ suc j) where
-  pub edges-stop : (o : Outcome) → edgeAt v low s at ≡ Stop o → record { outcome = o; succ = succ } ≡ edgesAt v s k at low succ
+module _ (v : ℕ) (s : List ℕ) (k at low : ℕ) (succ : List ℕ) (j : ℕ) (more : k ≡ suc j) (f : Field) (h : f ≡ edgeAt v low s at) where
+  pub edges-stop : (o : Outcome) → f ≡ Stop o → record { outcome = o; succ = succ } ≡ edgesAt v s k at low succ
   unfolding edgesAt
-  edges-stop o e = rw (more, e)
+  edges-stop o e = rw (more, ← h, e)
 
-  pub edges-got : (key : ℕ) (next : List ℕ) → edgeAt v low s at ≡ Got key → next ≡ addEdge succ key → edgesAt v s j (at + 2) (key + 1) next ≡ edgesAt v s k at low succ
+  pub edges-got : (key : ℕ) (next : List ℕ) → f ≡ Got key → next ≡ addEdge succ key → edgesAt v s j (at + 2) (key + 1) next ≡ edgesAt v s k at low succ
   unfolding edgesAt
-  edges-got key next e h = rw (more, e, h)
+  edges-got key next e q = rw (more, ← h, e, q)
 
 -- ---- an outcome that is not success is handed on as it stands
 pub not-read {ℓ} : {X : Type ℓ} (o : Outcome) (stop : Outcome → X) (go : Unit {0} → X) → (o ≡ Read → ⊥) → stop o ≡ whenRead o stop go
@@ -65,7 +64,7 @@ after-ticks : (s : List ℕ) (k at : ℕ) (f : Field) (costs : List ℕ) (go : �
     → ((x : ℕ) → at + 4 ≤ length s → go x .outcome ≡ Read → at + 4 + 4 * k ≤ length s)
     → onward f (λ o. record { outcome = o; costs = costs }) go .outcome ≡ Read → at + 4 + 4 * k ≤ length s
 after-ticks s k at (Stop o) costs go h step e = absurd (ticks-refused s at (h ∙ ap Stop e))
-after-ticks s k at (Got x) costs go h step e = step x (ticks-read s at x h .0) e
+after-ticks s k at (Got x) costs go h step e = step x (ticks-read s at (ticksAt s at) x refl h .0) e
 
 costs-within : (s : List ℕ) (k at u : ℕ) (costs : List ℕ) → at ≤ length s → costsAt s k at u costs .outcome ≡ Read → at + 4 * k ≤ length s
 unfolding costsAt

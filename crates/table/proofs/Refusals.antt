@@ -1,12 +1,12 @@
--- Every refusal's place lies within the input, or at its end.
+-- Every refusal's place lies within the input, or at its end; and it comes with a table of zeros.
 use mathlib.Core.Path.{_≡_, refl, sym, subst}
+use mathlib.Core.Logic.{⊎-elim}
 use mathlib.Core.Bool.{Bool, true, false, _&&_}
 use mathlib.Core.List.{List}
 use Prim.Native.Nat.{ℕ, zero, suc, _+_, _*_, _≤_}
 use native.Mathlib.Omega.{arith}
 use lib.ListN.{length, getD, set}
 use lib.Dec.{leb, eqb}
-use borrow.Author.Tests.{leb-true}
 use Rattle.table.specs.declared.Table.{Table}
 use Rattle.table.specs.declared.Outcome.{Outcome}
 use Rattle.table.specs.declared.Outcome.the-variants.{Read, Short, Mark, Range, Ticks, Order, Edge, Cycle, Extra}
@@ -19,10 +19,10 @@ use Rattle.table.specs.declared.TaskRead.{TaskRead}
 use Rattle.table.specs.declared.TableRead.{TableRead}
 use Rattle.graph.specs.Words.{pick}
 use Rattle.graph.specs.Graph.{acyclic}
-use Rattle.table.specs.Memory.{noSucc, noCosts, succ}
+use Rattle.table.specs.Memory.{noSucc, noCosts, noTable, succ}
 use Rattle.table.specs.Numbers.{number, place}
 use Rattle.table.specs.Reading.{onward, whenRead, field, markAt, ranged, byteAt, value4, ticksAt, notUnder, periodAt, edgeOk, edgeAt, costsAt, addEdge, edgesAt, badTask, partsAt, taskAt, badTable, withTask, tasksAt, tableAt, refused, ending, read}
-use Rattle.table.proofs.FieldViews.{Bad, bad-by}
+use Rattle.table.proofs.FieldViews.{Bad, bad-by, field-cases}
 use Rattle.table.proofs.Went.{out-task, out-table, out-loaded}
 use Rattle.table.proofs.FieldBytes.{stop-got}
 
@@ -40,13 +40,12 @@ abbrev StopsAt : ℕ → Outcome → Type 0
 StopsAt at o = Bad o × (place o ≡ at)
 
 field-placed : (size : ℕ) (s : List ℕ) (at : ℕ) → at ≤ length s → (rules : Field) → ((o : Outcome) → rules ≡ Stop o → StopsAt at o) → Placed (length s) (at + size) (field size s at rules)
-unfolding field number place
-field-placed size s at h rules p = go (leb (at + size) (length s)) refl rules p
+unfolding number place
+field-placed size s at h rules p = ⊎-elim (λ z. rw (z .1) (go (z .0) rules p)) (λ z. rw (z .1) (stopped (Short at) refl (bad-by (Short at) 0 refl) h)) (field-cases size s at rules)
   where
-    go : (b : Bool) → leb (at + size) (length s) ≡ b → (f : Field) → ((o : Outcome) → f ≡ Stop o → StopsAt at o) → Placed (length s) (at + size) (pick b f (Stop (Short at)))
-    go true e (Got x) p = got x refl (leb-true (at + size) (length s) e)
-    go true e (Stop o) p = let q = p o refl in stopped o refl (q .0) (omega (arith, q .1))
-    go false e f p = stopped (Short at) refl (bad-by (Short at) 0 refl) h
+    go : at + size ≤ length s → (f : Field) → ((o : Outcome) → f ≡ Stop o → StopsAt at o) → Placed (length s) (at + size) f
+    go l (Got x) p = got x refl l
+    go l (Stop o) p = let q = p o refl in stopped o refl (q .0) (omega (arith, q .1))
 
 pick-stops : (b : Bool) (x at : ℕ) (o : Outcome) → StopsAt at o → (q : Outcome) → pick b (Got x) (Stop o) ≡ Stop q → StopsAt at q
 pick-stops true x at o h q e = stop-got q x (sym e)
@@ -170,3 +169,25 @@ module _ (s : List ℕ) where
       pick-reach out refused out-loaded (length s) (eqb (r .next) (length s)) (record { outcome = Read; table = r .table }) (Extra (r .next)) (λ x. 0) (bad-by (Extra (r .next)) 7 refl) l
       (λ _. (omega arith, λ _. omega arith))) in
       k .0
+
+-- ---- "A refusal returns number, place and a table of zeros"
+zeros-when : (o : Outcome) (go : Unit {0} → Loaded) → (Bad (go tt .outcome) → go tt .table ≡ noTable) → Bad (whenRead o refused go .outcome) → whenRead o refused go .table ≡ noTable
+unfolding refused
+zeros-when Read go h b = h b
+zeros-when (Short p) go h b = refl
+zeros-when (Mark p) go h b = refl
+zeros-when (Range p) go h b = refl
+zeros-when (Ticks p) go h b = refl
+zeros-when (Order p) go h b = refl
+zeros-when (Edge p) go h b = refl
+zeros-when (Cycle p) go h b = refl
+zeros-when (Extra p) go h b = refl
+
+pub refused-zeros : (s : List ℕ) → (read s .outcome ≡ Read → ⊥) → read s .table ≡ noTable
+unfolding read ending refused Bad
+refused-zeros s b = zeros-when (tableAt s 0 .outcome) _ (λ h. at-end (eqb (tableAt s 0 .next) (length s)) h) b
+  where
+    at-end : (c : Bool) → (pick c (record { outcome = Read; table = tableAt s 0 .table }) (refused (Extra (tableAt s 0 .next))) .outcome ≡ Read → ⊥)
+        → pick c (record { outcome = Read; table = tableAt s 0 .table }) (refused (Extra (tableAt s 0 .next))) .table ≡ noTable
+    at-end true h = absurd (h refl)
+    at-end false h = refl

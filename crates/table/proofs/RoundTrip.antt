@@ -29,11 +29,6 @@ use Rattle.table.proofs.Stands.{stands-good}
 use Rattle.table.proofs.ByteLists.{encode-bytes}
 
 -- ---- writing, by its tests
-pub writing-done : (t : Table) (room : ℕ) → read (encode t) .outcome ≡ Read → unusedZero t ≡ true → length (encode t) ≤ room
-    → writing t room ≡ Done (length (encode t))
-unfolding writing
-writing-done t room a z l = rw (a, z, le-leb (length (encode t)) room l)
-
 -- what a reader says of the bytes that were to be written
 readerSays : Written → Outcome
 readerSays (Done l) = Read
@@ -57,6 +52,11 @@ done-tests t room l e =
     tests true true n p = (refl, refl, cc)
     tests true false n p = never (Room n) p refl n (inl refl)
     tests false c n p = never Unused p refl n (inr refl)
+
+pub writing-done : (t : Table) (room : ℕ) → read (encode t) .outcome ≡ Read → unusedZero t ≡ true → length (encode t) ≤ room
+    → writing t room ≡ Done (length (encode t))
+unfolding writing
+writing-done t room a z l = rw (a, z, le-leb (length (encode t)) room l)
 
 -- WHAT THE READER ACCEPTS, THE WRITER GIVES BACK byte for byte: into any buffer that has room, and what lies behind it stays
 pub gives-back : (s : List ℕ) → Bytes s → read s .outcome ≡ Read → (buffer : List ℕ) → length s ≤ length buffer

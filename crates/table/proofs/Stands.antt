@@ -26,7 +26,7 @@ use Rattle.table.proofs.FieldViews.{Between, ticks-view, Ends, on-field
 use Rattle.table.proofs.Went.{out-table, task-went, noneYet, table-went, file-went}
 use Rattle.table.proofs.FieldBytes.{field-got, pick-got, byte-bytes, period-is}
 use Rattle.table.proofs.Edges.{AllEnds, edges-are}
-use Rattle.table.proofs.Keys.{same-succ, ends-by-keys}
+use Rattle.table.proofs.EdgeKeys.{same-succ, ends-by-keys}
 use Rattle.table.proofs.FieldForth.{four-value, next-four}
 use Rattle.table.proofs.Places.{at-v, at-e, at-D, at-T, at-costs, at-edges, task-after}
 use Rattle.table.proofs.Unused.{spare-vertex, spare-cost, spare-task}

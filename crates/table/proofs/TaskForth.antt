@@ -23,7 +23,7 @@ use Rattle.table.specs.Good.{GoodTable, Typed}
 use Rattle.table.proofs.Ascending.{Asc}
 use Rattle.table.proofs.Successors.{addAll}
 use Rattle.table.proofs.FieldViews.{Ends}
-use Rattle.table.proofs.Keys.{keys-ascend, key-edge, same-succ}
+use Rattle.table.proofs.EdgeKeys.{keys-ascend, key-edge, same-succ}
 use Rattle.table.proofs.FieldForth.{cell, cell-in, cell-next, read-mark, read-byte, read-ticks, next-four}
 use Rattle.table.proofs.Places.{at-mark, at-v, at-e, at-D, at-T, at-costs, at-edges}
 

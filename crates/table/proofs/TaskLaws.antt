@@ -2,10 +2,10 @@
 use mathlib.Core.Path.{_≡_, refl, sym, ap, _∙_}
 use mathlib.Core.Bool.{Bool, true, false, _&&_}
 use mathlib.Core.List.{List}
-use Prim.Native.Nat.{ℕ, zero, suc, _+_, _*_, _/_, _%_, _≤_, _<_}
+use Prim.Native.Nat.{ℕ, suc, _+_, _*_, _/_, _%_, _<_}
 use native.Mathlib.Omega.{arith}
 use native.Mathlib.Decide.{ℕ-discrete}
-use borrow.Author.Tests.{lt-ltb, le-ltb, ltb-true, ltb-false, eq-eqb, ne-eqb, eqb-true, eqb-false}
+use borrow.Author.Tests.{lt-ltb, le-ltb, ltb-true, ltb-false, eq-eqb, ne-eqb, eqb-true}
 use lib.ListN.{length, getD, set, length-set}
 use lib.Seq.{getD-set-same, getD-set-other, ext-getD}
 use lib.Dec.{ltb, eqb}
@@ -13,7 +13,7 @@ use Rattle.table.specs.declared.Task.{Task}
 use Rattle.table.specs.declared.Table.{Table}
 use Rattle.table.specs.declared.Loaded.{Loaded}
 use Rattle.table.specs.declared.Outcome.{Outcome}
-use Rattle.table.specs.declared.Outcome.the-variants.{Read, Short, Mark, Range, Ticks, Order, Edge, Cycle, Extra}
+use Rattle.table.specs.declared.Outcome.the-variants.{Read, Cycle, Extra}
 use Rattle.table.specs.declared.Field.{Field}
 use Rattle.table.specs.declared.Field.the-variants.{Stop, Got}
 use Rattle.table.specs.declared.CostsRead.{CostsRead}
@@ -24,7 +24,7 @@ use Rattle.graph.specs.Words.{pick, row}
 use Rattle.graph.specs.Graph.{acyclic}
 use Rattle.graph.proofs.Facts.{length-row, row-at}
 use Rattle.table.specs.Memory.{noCosts, noSucc, noTasks, noRow}
-use Rattle.table.specs.Reading.{onward, whenRead, markAt, byteAt, ticksAt, periodAt, costsAt, edgesAt, badTask, partsAt, taskAt, putCosts, badTable, withTask, tasksAt, tableAt, refused, ending, read}
+use Rattle.table.specs.Reading.{markAt, byteAt, ticksAt, periodAt, costsAt, edgesAt, badTask, partsAt, taskAt, putCosts, badTable, withTask, tasksAt, tableAt, refused, ending, read}
 use Rattle.table.proofs.PartLaws.{not-read, told-other}
 
 -- ---- the costs, the edges and the cycle test

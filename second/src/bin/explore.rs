@@ -7,13 +7,16 @@ use std::process::ExitCode;
 use std::time::{Duration, Instant};
 
 const USAGE: &str = "explore [--tables N] [--seconds S] [--small K] [--seed X] \
-[--say-yes | --margin-less | --round-down]
+[--processors M]
+        [--say-yes | --margin-less | --margin-less-m | --round-down]
   --tables N     random accepted tables to explore (default 250000)
   --seconds S    stop after S seconds (default: no limit)
   --small K      also all very small tables with numbers up to K (default 6, 0 for none)
   --seed X       seed of the random tables (default 1)
+  --processors M only tables with this m (1 to 3)
   --say-yes      accept every table
-  --margin-less  accept margins down to -1
+  --margin-less  accept margins down to -1 (a miss on one processor only)
+  --margin-less-m  accept margins down to -m (a miss on any number of processors)
   --round-down   round D/T down in due";
 
 struct Options {
@@ -21,6 +24,7 @@ struct Options {
     seconds: Option<u64>,
     small: u32,
     seed: u64,
+    processors: Option<u8>,
     rule: Rule,
 }
 
@@ -30,6 +34,7 @@ fn options() -> Result<Options, String> {
         seconds: None,
         small: 6,
         seed: 1,
+        processors: None,
         rule: Rule::Verdict,
     };
     let mut words = std::env::args().skip(1);
@@ -43,6 +48,8 @@ fn options() -> Result<Options, String> {
             "--seconds" => options.seconds = Some(number()?),
             "--small" => options.small = number()?.min(6) as u32,
             "--seed" => options.seed = number()?,
+            "--processors" => options.processors = Some(number()?.clamp(1, 3) as u8),
+            "--margin-less-m" => options.rule = Rule::MarginLessM,
             "--say-yes" => options.rule = Rule::SayYes,
             "--margin-less" => options.rule = Rule::MarginLess,
             "--round-down" => options.rule = Rule::RoundDown,
@@ -170,7 +177,7 @@ fn main() -> ExitCode {
     if options.small > 0 {
         let mut good = true;
         small_tables(options.small, |table| {
-            good = tour.visit(table);
+            good = options.processors.is_some_and(|m| m != table.m) || tour.visit(table);
             good && !tour.over()
         });
         if !good {
@@ -186,6 +193,7 @@ fn main() -> ExitCode {
     while tour.tables - small < options.tables && !tour.over() {
         let roomy = !r.one_in(4);
         let mut table = tiny_table(&mut r, roomy);
+        table.m = options.processors.unwrap_or(table.m);
         if !accepts(options.rule, &table) {
             tour.looked_at += 1;
             continue;

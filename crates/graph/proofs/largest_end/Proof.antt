@@ -1,6 +1,6 @@
 -- The loop's invariant: the largest end of the vertices so far.
 use mathlib.Core.Path.{_≡_, ap, refl, sym, _∙_}
-use Prim.Native.Nat.{ℕ, _+_, _-_, _≤_, _<_, max}
+use Prim.Native.Nat.{ℕ, _+_, _-_, _≤_, max}
 use native.Mathlib.Omega.{arith}
 use borrow.Author.Needs.{needs}
 use lib.ListN.{getD}
@@ -8,10 +8,6 @@ use Rattle.graph.specs.Words.{largest}
 use Rattle.graph.proofs.Facts.{largest-next}
 use Rattle.graph.proofs.largest_end.Statement.{statement}
 use Rattle.graph.proofs.largest_end.Tie as tie
-use Rattle.graph.proofs.largest_end.Reads as reads
-use Rattle.graph.proofs.largest_end.Lts as lts
-use Rattle.graph.proofs.larger.Reads as larger-reads
-use Rattle.graph.proofs.wide.Reads as wide-reads
 
 abbrev Inv-loop : tie.InvT-loop
 Inv-loop starts times best₀ u₀ best u = (u ≤ 16) × (best ≡ largest u (λ x. getD starts x 0 + getD times x 0))

@@ -1,8 +1,8 @@
 -- The loop's invariant: `Round`, what holds between the rounds.
-use mathlib.Core.Path.{_≡_, refl, sym, ap, _∙_}
+use mathlib.Core.Path.{_∙_}
 use mir.Val.{Fits}
 use mir.Syntax.{w16, w32}
-use Prim.Native.Nat.{ℕ, _+_, _^_, _≤_, _<_}
+use Prim.Native.Nat.{ℕ}
 use native.Mathlib.Omega.{arith}
 use borrow.Author.Needs.{needs}
 use lib.ListN.{getD}
@@ -10,11 +10,6 @@ use lib.Bits.{and-le-l}
 use Rattle.graph.proofs.Rounds.{Round, round-first, room-for, round-next, round-cycle, round-done}
 use Rattle.graph.proofs.longest.Statement.{statement}
 use Rattle.graph.proofs.longest.Tie as tie
-use Rattle.graph.proofs.longest.Reads as reads
-use Rattle.graph.proofs.longest.Lts as lts
-use Rattle.graph.proofs.largest_end.Reads as largest-end-reads
-use Rattle.graph.proofs.led_from.Reads as led-from-reads
-use Rattle.graph.proofs.pass_on.Reads as pass-on-reads
 
 abbrev Inv-loop : tie.InvT-loop
 Inv-loop succ times starts₀ left₀ starts left = Round succ times left starts

@@ -1,9 +1,9 @@
 -- The loop's invariant: taking out what is left gives the whole, and there is room for it.
-use mathlib.Core.Path.{_≡_, ap, refl, sym, _∙_}
+use mathlib.Core.Path.{_≡_, ap, refl, _∙_}
 use mathlib.Core.List.{List}
 use mir.Val.{Fits}
 use mir.Syntax.{w32}
-use Prim.Native.Nat.{ℕ, _+_, _*_, _≤_, _<_}
+use Prim.Native.Nat.{ℕ, _<_}
 use native.Mathlib.Omega.{arith}
 use borrow.Author.Needs.{needs}
 use lib.ListN.{length, getD}
@@ -12,12 +12,6 @@ use Rattle.graph.specs.Order.{passed, passedAll}
 use Rattle.graph.proofs.Order.{Room, passedAll-end, passedAll-more, passed-length, passed-room}
 use Rattle.graph.proofs.pass_on.Statement.{statement}
 use Rattle.graph.proofs.pass_on.Tie as tie
-use Rattle.graph.proofs.pass_on.Reads as reads
-use Rattle.graph.proofs.pass_on.Lts as lts
-use Rattle.graph.proofs.first_of.Reads as first-of-reads
-use Rattle.graph.proofs.others.Reads as others-reads
-use Rattle.graph.proofs.raise.Reads as raise-reads
-use Rattle.graph.proofs.wide.Reads as wide-reads
 
 abbrev Inv-loop : tie.InvT-loop
 Inv-loop set succ times now₀ rest₀ now rest =

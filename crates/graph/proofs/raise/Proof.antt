@@ -1,6 +1,5 @@
 -- The loop's invariant: raising what is left gives the whole.
 use mathlib.Core.Path.{_≡_, ap, refl, _∙_}
-use Prim.Native.Nat.{_<_}
 use native.Mathlib.Omega.{arith}
 use borrow.Author.Needs.{needs}
 use lib.ListN.{length, length-set}
@@ -9,11 +8,6 @@ use Rattle.graph.specs.Order.{raised}
 use Rattle.graph.proofs.Order.{raised-end, raised-more}
 use Rattle.graph.proofs.raise.Statement.{statement}
 use Rattle.graph.proofs.raise.Tie as tie
-use Rattle.graph.proofs.raise.Reads as reads
-use Rattle.graph.proofs.raise.Lts as lts
-use Rattle.graph.proofs.first_of.Reads as first-of-reads
-use Rattle.graph.proofs.larger.Reads as larger-reads
-use Rattle.graph.proofs.others.Reads as others-reads
 
 abbrev Inv-loop : tie.InvT-loop
 Inv-loop end set next₀ rest₀ next rest = (length next ≡ 16) × (raised next end (members rest) ≡ raised next₀ end (members set))

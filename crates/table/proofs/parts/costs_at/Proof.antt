@@ -1,3 +1,4 @@
+-- What is left to read from here gives what all of it gives from the start.
 use Rattle.table.proofs.PartLaws.{costs-end, costs-stop, costs-got}
 use Rattle.table.proofs.FieldLaws.{ticks-read}
 use Rattle.table.specs.Reading.{costsAt}
@@ -6,8 +7,8 @@ use lib.ListN.{length}
 use borrow.Author.Needs.{needs}
 use native.Mathlib.Nat.{sub-zero}
 use native.Mathlib.Omega.{arith}
-use mathlib.Core.Path.{_≡_, refl, sym, ap, _∙_}
-use Prim.Native.Nat.{ℕ, _≤_, _<_, _+_, _-_}
+use mathlib.Core.Path.{_≡_, _∙_}
+use Prim.Native.Nat.{_≤_, _+_, _-_}
 use Rattle.table.proofs.parts.costs_at.Statement.{statement}
 use Rattle.table.proofs.parts.costs_at.Tie as tie
 
@@ -30,7 +31,7 @@ enum-known-o c = search needs
 returns : tie.Need-returns Inv-loop μ-loop
 returns c =
     let b = c .before .before .before .before in
-    costs-stop _ _ _ _ _ (b .before .before .before .args .v - (b .before .loop .u + 1)) (omega arith) _ (sym (c .before .before .before .ticks-at .ensures) ∙ c .before .o .given .1)
+    costs-stop _ _ _ _ _ (b .before .before .before .args .v - (b .before .loop .u + 1)) (omega arith) _ (c .before .before .before .ticks-at .ensures) _ (c .before .o .given .1)
     ∙ b .before .loop .inv .2
 
 enum-known-x : tie.Need-enum-known-x Inv-loop μ-loop
@@ -43,7 +44,7 @@ array-write-costs : tie.Need-array-write-costs Inv-loop μ-loop
 array-write-costs c = search needs
 
 add-p : tie.Need-add-p Inv-loop μ-loop
-add-p c = omega (arith, ticks-read _ _ _ (sym (c .before .before .before .ticks-at .ensures) ∙ c .before .x .given .1) .0)
+add-p c = omega (arith, ticks-read _ _ _ _ (c .before .before .before .ticks-at .ensures) (c .before .x .given .1) .0)
 
 add-u : tie.Need-add-u Inv-loop μ-loop
 add-u c = search needs
@@ -53,9 +54,11 @@ loop-less c = search needs
 
 loop-again : tie.Need-loop-again Inv-loop μ-loop
 loop-again c =
-    let is = sym (c .before .before .before .ticks-at .ensures) ∙ c .before .x .given .1 in
-    let r = ticks-read _ _ _ is in
-    (search needs, omega arith, costs-got _ _ _ _ _ _ (omega arith) _ is ∙ c .before .before .before .before .before .loop .inv .2)
+    let r = ticks-read _ _ _ _ (c .before .before .before .ticks-at .ensures) (c .before .x .given .1) in (
+      search needs,
+      omega arith,
+      costs-got _ _ _ _ _ _ (omega arith) _ (c .before .before .before .ticks-at .ensures) _ (c .before .x .given .1) ∙ c .before .before .before .before .before .loop .inv .2,
+    )
 
 returns-2 : tie.Need-returns-2 Inv-loop μ-loop
 returns-2 c = costs-end _ _ _ _ _ (omega arith) ∙ c .before .loop .inv .2

@@ -1,3 +1,4 @@
+-- What is left to read from here gives what all of it gives from the start.
 use Rattle.table.proofs.PartLaws.{edges-end, edges-stop, edges-got}
 use Rattle.table.proofs.FieldLaws.{edge-read}
 use Rattle.table.specs.Reading.{addEdge, edgesAt}
@@ -6,8 +7,8 @@ use lib.ListN.{length}
 use borrow.Author.Needs.{needs}
 use native.Mathlib.Nat.{sub-zero}
 use native.Mathlib.Omega.{arith}
-use mathlib.Core.Path.{_≡_, refl, sym, ap, _∙_}
-use Prim.Native.Nat.{ℕ, _≤_, _<_, _+_, _-_}
+use mathlib.Core.Path.{_≡_, _∙_}
+use Prim.Native.Nat.{_≤_, _<_, _+_, _-_}
 use Rattle.table.proofs.parts.edges_at.Statement.{statement}
 use Rattle.table.proofs.parts.edges_at.Tie as tie
 
@@ -30,7 +31,7 @@ enum-known-o c = search needs
 returns : tie.Need-returns Inv-loop μ-loop
 returns c =
     let b = c .before .before .before .before .before in
-    edges-stop _ _ _ _ _ _ (b .before .before .args .e - (b .loop .i + 1)) (omega arith) _ (sym (c .before .before .before .edge-at .ensures) ∙ c .before .o .given .1)
+    edges-stop _ _ _ _ _ _ (b .before .before .args .e - (b .loop .i + 1)) (omega arith) _ (c .before .before .before .edge-at .ensures) _ (c .before .o .given .1)
     ∙ b .loop .inv .2
 
 enum-known-key : tie.Need-enum-known-key Inv-loop μ-loop
@@ -45,28 +46,27 @@ power-requires c κs = search needs
 mul-succ : tie.Need-mul-succ Inv-loop μ-loop
 mul-succ c = search needs
 
+-- what is known where an edge was read: the place after it is within the input, and its key is below 256
+within : (c : tie.After-power Inv-loop μ-loop) → c .before .before .before .before .before .before .loop .p + 2 ≤ length (c .before .before .before .before .before .before .before .before .args .bytes .now)
+within c = edge-read _ _ _ _ _ _ (c .before .before .before .before .edge-at .ensures) (c .before .before .key .given .1) .0
+
+small : (c : tie.After-power Inv-loop μ-loop) → c .before .before .key .given .0 .0 < 256
+small c = edge-read _ _ _ _ _ _ (c .before .before .before .before .edge-at .ensures) (c .before .before .key .given .1) .2 (c .before .before .before .before .before .before .before .before .pre .0)
+
 array-read-succ : tie.Need-array-read-succ Inv-loop μ-loop
-array-read-succ c =
-    let r = edge-read _ _ _ _ _ (sym (c .before .before .before .before .edge-at .ensures) ∙ c .before .before .key .given .1) in
-    let h = r .2 (c .before .before .before .before .before .before .before .before .pre .0) in omega arith
+array-read-succ c = omega (arith, small c)
 
 mul-succ-2 : tie.Need-mul-succ-2 Inv-loop μ-loop
 mul-succ-2 c = search needs
 
 array-write-succ : tie.Need-array-write-succ Inv-loop μ-loop
-array-write-succ c =
-    let r = edge-read _ _ _ _ _ (sym (c .before .before .before .before .edge-at .ensures) ∙ c .before .before .key .given .1) in
-    let h = r .2 (c .before .before .before .before .before .before .before .before .pre .0) in omega arith
+array-write-succ c = omega (arith, small c)
 
 add-low : tie.Need-add-low Inv-loop μ-loop
-add-low c =
-    let r = edge-read _ _ _ _ _ (sym (c .before .before .before .before .edge-at .ensures) ∙ c .before .before .key .given .1) in
-    let h = r .2 (c .before .before .before .before .before .before .before .before .pre .0) in omega arith
+add-low c = omega (arith, small c)
 
 add-p : tie.Need-add-p Inv-loop μ-loop
-add-p c =
-    let r = edge-read _ _ _ _ _ (sym (c .before .before .before .before .edge-at .ensures) ∙ c .before .before .key .given .1) in
-    omega arith
+add-p c = omega (arith, within c)
 
 add-i : tie.Need-add-i Inv-loop μ-loop
 add-i c = search needs
@@ -76,13 +76,11 @@ loop-less c = search needs
 
 loop-again : tie.Need-loop-again Inv-loop μ-loop
 unfolding addEdge
-loop-again c =
-    let is = sym (c .before .before .before .before .edge-at .ensures) ∙ c .before .before .key .given .1 in
-    let r = edge-read _ _ _ _ _ is in (
-      search needs,
-      omega arith,
-      edges-got _ _ _ _ _ _ _ (omega arith) _ _ is (rw (c .power .ensures)) ∙ c .before .before .before .before .before .before .loop .inv .2,
-    )
+loop-again c = (
+  search needs,
+  within c,
+  edges-got _ _ _ _ _ _ _ (omega arith) _ (c .before .before .before .before .edge-at .ensures) _ _ (c .before .before .key .given .1) (rw (c .power .ensures)) ∙ c .before .before .before .before .before .before .loop .inv .2,
+)
 
 returns-2 : tie.Need-returns-2 Inv-loop μ-loop
 returns-2 c = edges-end _ _ _ _ _ _ (omega arith) ∙ c .before .loop .inv .2

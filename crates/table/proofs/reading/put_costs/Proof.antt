@@ -1,10 +1,9 @@
+-- The first u of the task's own costs stand in the row, and the rest of it is as it was.
 use Rattle.table.proofs.TaskLaws.{PutUpto, put-none, put-one, put-all}
-use lib.ListN.{length}
 use borrow.Author.Needs.{needs}
-use native.Mathlib.Nat.{sub-zero}
 use native.Mathlib.Omega.{arith}
-use mathlib.Core.Path.{_≡_, refl, sym, ap, _∙_}
-use Prim.Native.Nat.{ℕ, _≤_, _<_, _+_, _-_}
+use mathlib.Core.Path.{_≡_}
+use Prim.Native.Nat.{_≤_, _-_}
 use Rattle.table.proofs.reading.put_costs.Statement.{statement}
 use Rattle.table.proofs.reading.put_costs.Tie as tie
 

@@ -1,10 +1,7 @@
 use Rattle.table.proofs.FieldLaws.{mark-read, byte-read}
 use Rattle.table.proofs.TaskLaws.{table-laws}
-use lib.ListN.{length}
-use native.Mathlib.Nat.{sub-zero}
 use native.Mathlib.Omega.{arith}
-use mathlib.Core.Path.{_≡_, refl, sym, ap, _∙_}
-use Prim.Native.Nat.{ℕ, _≤_, _<_, _+_, _-_}
+use Prim.Native.Nat.{_-_}
 use borrow.Author.Needs.{needs}
 use Rattle.table.proofs.reading.table_at.Statement.{statement}
 use Rattle.table.proofs.reading.table_at.Tie as tie
@@ -25,7 +22,7 @@ enum-told : tie.Need-enum-told
 enum-told c = search needs
 
 add-byte-at : tie.Need-add-byte-at
-add-byte-at c = omega (arith, mark-read _ _ _ _ (sym (c .before .before .mark-at .ensures) ∙ c .enum-told .given .1))
+add-byte-at c = omega (arith, mark-read _ _ _ _ _ (c .before .before .mark-at .ensures) (c .enum-told .given .1))
 
 byte-at-requires : tie.Need-byte-at-requires
 byte-at-requires c κs = search needs
@@ -43,7 +40,7 @@ enum-known-x : tie.Need-enum-known-x
 enum-known-x c = search needs
 
 add-byte-at-2 : tie.Need-add-byte-at-2
-add-byte-at-2 c = omega (arith, byte-read _ _ _ _ _ (sym (c .before .before .before .byte-at .ensures) ∙ c .before .x .given .1) .0)
+add-byte-at-2 c = omega (arith, byte-read _ _ _ _ _ _ (c .before .before .before .byte-at .ensures) (c .before .x .given .1) .0)
 
 byte-at-requires-2 : tie.Need-byte-at-requires-2
 byte-at-requires-2 c κs = search needs
@@ -58,12 +55,12 @@ enum-known-n : tie.Need-enum-known-n
 enum-known-n c = search needs
 
 add-tasks-at : tie.Need-add-tasks-at
-add-tasks-at c = omega (arith, byte-read _ _ _ _ _ (sym (c .before .before .before .byte-at2 .ensures) ∙ c .before .n .given .1) .0)
+add-tasks-at c = omega (arith, byte-read _ _ _ _ _ _ (c .before .before .before .byte-at2 .ensures) (c .before .n .given .1) .0)
 
 tasks-at-requires : tie.Need-tasks-at-requires
 tasks-at-requires c κs =
-    let m = byte-read _ _ _ _ _ (sym (c .before .before .before .before .before .before .before .byte-at .ensures) ∙ c .before .before .before .before .before .x .given .1) in
-    let n = byte-read _ _ _ _ _ (sym (c .before .before .before .byte-at2 .ensures) ∙ c .before .n .given .1) in
+    let m = byte-read _ _ _ _ _ _ (c .before .before .before .before .before .before .before .byte-at .ensures) (c .before .before .before .before .before .x .given .1) in
+    let n = byte-read _ _ _ _ _ _ (c .before .before .before .byte-at2 .ensures) (c .before .n .given .1) in
     (omega arith, n .2)
 
 returns-3 : tie.Need-returns-3

@@ -1,8 +1,6 @@
 use Rattle.table.proofs.TaskLaws.{task-laws, task-t, task-parts}
 use Rattle.table.proofs.FieldLaws.{mark-read, byte-read, ticks-read, period-read}
-use mathlib.Core.Path.{sym, _∙_}
 use native.Mathlib.Omega.{arith}
-use Rattle.table.proofs.TaskLaws.{task-laws}
 use borrow.Author.Needs.{needs}
 use Rattle.table.proofs.reading.task_at.Statement.{statement}
 use Rattle.table.proofs.reading.task_at.Tie as tie
@@ -23,7 +21,7 @@ enum-told : tie.Need-enum-told
 enum-told c = search needs
 
 add-byte-at : tie.Need-add-byte-at
-add-byte-at c = omega (arith, mark-read _ _ _ _ (sym (c .before .before .mark-at .ensures) ∙ c .enum-told .given .1))
+add-byte-at c = omega (arith, mark-read _ _ _ _ _ (c .before .before .mark-at .ensures) (c .enum-told .given .1))
 
 byte-at-requires : tie.Need-byte-at-requires
 byte-at-requires c κs = search needs
@@ -41,7 +39,7 @@ enum-known-x : tie.Need-enum-known-x
 enum-known-x c = search needs
 
 add-byte-at-2 : tie.Need-add-byte-at-2
-add-byte-at-2 c = omega (arith, byte-read _ _ _ _ _ (sym (c .before .before .before .byte-at .ensures) ∙ c .before .x .given .1) .0)
+add-byte-at-2 c = omega (arith, byte-read _ _ _ _ _ _ (c .before .before .before .byte-at .ensures) (c .before .x .given .1) .0)
 
 byte-at-requires-2 : tie.Need-byte-at-requires-2
 byte-at-requires-2 c κs = search needs
@@ -59,10 +57,10 @@ enum-known-x-2 : tie.Need-enum-known-x-2
 enum-known-x-2 c = search needs
 
 add-ticks-at : tie.Need-add-ticks-at
-add-ticks-at c = omega (arith, byte-read _ _ _ _ _ (sym (c .before .before .before .byte-at2 .ensures) ∙ c .before .x2 .given .1) .0)
+add-ticks-at c = omega (arith, byte-read _ _ _ _ _ _ (c .before .before .before .byte-at2 .ensures) (c .before .x2 .given .1) .0)
 
 ticks-at-requires : tie.Need-ticks-at-requires
-ticks-at-requires c κs = omega (arith, byte-read _ _ _ _ _ (sym (c .before .before .before .byte-at2 .ensures) ∙ c .before .x2 .given .1) .0)
+ticks-at-requires c κs = omega (arith, byte-read _ _ _ _ _ _ (c .before .before .before .byte-at2 .ensures) (c .before .x2 .given .1) .0)
 
 enum-known-o-4 : tie.Need-enum-known-o-4
 enum-known-o-4 c = search needs
@@ -77,10 +75,10 @@ enum-known-x-3 : tie.Need-enum-known-x-3
 enum-known-x-3 c = search needs
 
 add-period-at : tie.Need-add-period-at
-add-period-at c = omega (arith, ticks-read _ _ _ (sym (c .before .before .before .ticks-at .ensures) ∙ c .before .x3 .given .1) .0)
+add-period-at c = omega (arith, ticks-read _ _ _ _ (c .before .before .before .ticks-at .ensures) (c .before .x3 .given .1) .0)
 
 period-at-requires : tie.Need-period-at-requires
-period-at-requires c κs = omega (arith, ticks-read _ _ _ (sym (c .before .before .before .ticks-at .ensures) ∙ c .before .x3 .given .1) .0)
+period-at-requires c κs = omega (arith, ticks-read _ _ _ _ (c .before .before .before .ticks-at .ensures) (c .before .x3 .given .1) .0)
 
 enum-known-o-5 : tie.Need-enum-known-o-5
 enum-known-o-5 c = search needs
@@ -93,9 +91,9 @@ enum-known-t c = search needs
 
 parts-at-requires : tie.Need-parts-at-requires
 parts-at-requires c κs =
-    let l = period-read _ _ _ _ (sym (c .before .before .before .period-at .ensures) ∙ c .before .t .given .1) in (
-      byte-read _ _ _ _ _ (sym (c .before .before .before .before .before .before .before .before .before .before .before .before .before .before .before .byte-at .ensures) ∙ c .before .before .before .before .before .before .before .before .before .before .before .before .before .x .given .1) .2,
-      byte-read _ _ _ _ _ (sym (c .before .before .before .before .before .before .before .before .before .before .before .byte-at2 .ensures) ∙ c .before .before .before .before .before .before .before .before .before .x2 .given .1) .2,
+    let l = period-read _ _ _ _ _ (c .before .before .before .period-at .ensures) (c .before .t .given .1) in (
+      byte-read _ _ _ _ _ _ (c .before .before .before .before .before .before .before .before .before .before .before .before .before .before .before .byte-at .ensures) (c .before .before .before .before .before .before .before .before .before .before .before .before .before .x .given .1) .2,
+      byte-read _ _ _ _ _ _ (c .before .before .before .before .before .before .before .before .before .before .before .byte-at2 .ensures) (c .before .before .before .before .before .before .before .before .before .x2 .given .1) .2,
       omega arith,
     )
 

@@ -1,3 +1,4 @@
+-- What is left to read from here gives what all of it gives from the start; the row keeps its 256 places.
 use Rattle.table.proofs.TaskLaws.{tasks-end, tasks-stop, tasks-got, put-long}
 use Rattle.table.proofs.PartLaws.{told-other}
 use Rattle.table.specs.Reading.{tasksAt}
@@ -6,8 +7,8 @@ use lib.ListN.{length}
 use borrow.Author.Needs.{needs}
 use native.Mathlib.Nat.{sub-zero}
 use native.Mathlib.Omega.{arith}
-use mathlib.Core.Path.{_≡_, refl, sym, ap, _∙_}
-use Prim.Native.Nat.{ℕ, _≤_, _<_, _+_, _-_}
+use mathlib.Core.Path.{_≡_, refl, _∙_}
+use Prim.Native.Nat.{_≤_, _+_, _-_}
 use Rattle.table.proofs.reading.tasks_at.Statement.{statement}
 use Rattle.table.proofs.reading.tasks_at.Tie as tie
 
