@@ -1,5 +1,5 @@
 -- What the code finds of a good table's task is its len, due and margin; what a difference of two numbers is to the machine.
-use mathlib.Core.Path.{_≡_, refl, sym, ap, ap₂, _∙_}
+use mathlib.Core.Path.{_≡_, sym, ap, ap₂, _∙_}
 use mathlib.Core.Bool.{Bool, true, false, cond}
 use mathlib.Core.List.{List, [], _∷_}
 use Prim.Native.Nat.{ℕ, zero, suc, _+_, _*_, _-_, _^_, _≤_, _<_}
@@ -14,14 +14,15 @@ use lib.Signed.{mag, ltZ}
 use mir.Syntax.{w64}
 use mir.Val.{SFits, toZ, ofZ}
 use mir.Facts.{toZ-pos, toZ-ofZ}
-use Rattle.graph.specs.Words.{pick, sum, row}
+use Rattle.graph.specs.Words.{sum, row}
 use Rattle.graph.specs.Graph.{edge, acyclic, Chain, alone, joined, sumAlong, longest, longestOf}
 use Rattle.graph.proofs.Facts.{sum-same, length-row, row-at}
 use Rattle.graph.proofs.Long.{longest-bounds, longest-reached}
 use Rattle.table.specs.declared.Table.{Table}
 use Rattle.table.specs.Memory.{vertices, D, T, succ, edgeIn, cost}
-use Rattle.table.specs.Good.{GoodTask, GoodTable}
+use Rattle.table.specs.Good.{GoodTable}
 use Rattle.verdict.specs.Verdicts.{vol, len, roundedUp, due, margin}
+use Rattle.verdict.proofs.Amounts.{vol-high, len-vol, due-bound}
 
 -- ---- loops: one term more of a sum, and a row of sixteen whose first i numbers are those of f
 pub sum-next : (n : ℕ) (f : ℕ → ℕ) → sum (n + 1) f ≡ sum n f + f n
@@ -115,6 +116,33 @@ module _ (t : Table) (good : GoodTable t) (k : ℕ) (b : k < t .n) where
       → sum (t .n) (λ i. roundedUp (D t k) (getD times i 0) * getD vols i 0) ≡ due t k
   unfolding due
   due-is times vols p q = sum-same (t .n) _ _ (λ i h. ap₂ (λ (x y : ℕ). roundedUp (D t k) x * y) (p i h) (q i h))
+
+  -- what `due_of` requires
+  pub due-ready : (times vols : List ℕ) → ((i : ℕ) → i < t .n → getD times i 0 ≡ T t i) → ((i : ℕ) → i < t .n → getD vols i 0 ≡ vol t i)
+      → (t .n ≤ 16) × (D t k ≤ 1000000)
+      × ((i : ℕ) → i < t .n → (1 ≤ getD times i 0) × (getD times i 0 ≤ 1000000) × (getD vols i 0 ≤ 16000000))
+  due-ready times vols p q = (
+    good .n-high,
+    good .each k b .D-high,
+    λ i h.
+        let g = good .each i h in
+        (omega (arith, g .T-low, p i h), omega (arith, g .T-high, p i h), omega (arith, vol-high t good i h, q i h)),
+  )
+
+  -- what `margin_of` requires, and what it then gives
+  module _ (x y : ℕ) (l : x ≡ len t k) (d : y ≡ due t k) where
+    pub margin-ready : (1 ≤ t .m) × (t .m ≤ 8) × (D t k ≤ 1000000) × (x ≤ 16000000) × (y ≤ 240000016000000)
+    margin-ready = (
+      good .m-low,
+      good .m-high,
+      good .each k b .D-high,
+      omega (arith, len-vol t good k b, vol-high t good k b),
+      omega (arith, due-bound t good k b),
+    )
+
+    pub margin-found : (z : ℤ) → z ≡ pos (t .m * D t k) -ℤ pos ((t .m - 1) * x + y) → z ≡ margin t k
+    unfolding margin
+    margin-found z e = e ∙ ap₂ (λ (x y : ℕ). pos (t .m * D t k) -ℤ pos ((t .m - 1) * x + y)) l d
 
 -- ---- a difference of two numbers as the machine has it
 either-mag : (c : Bool) (x y n : ℕ) → x ≤ n → y ≤ n → mag (cond c (negsuc x) (pos y)) ≤ n

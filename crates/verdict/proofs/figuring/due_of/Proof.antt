@@ -1,9 +1,10 @@
-use borrow.Author.Needs.{needs}
+-- The loop's invariant: what the tasks so far owe, and a bound on it.
+use mathlib.Core.Path.{_≡_, refl, sym, ap₂, _∙_}
 use Prim.Native.Nat.{ℕ, _+_, _*_, _-_, _≤_}
 use native.Mathlib.Omega.{arith}
 use native.Mathlib.Nat.{mul-le-mul}
-use mathlib.Core.Path.{_≡_, refl, sym, ap, ap₂, _∙_}
 use lib.ListN.{getD}
+use borrow.Author.Needs.{needs}
 use Rattle.graph.specs.Words.{sum}
 use Rattle.verdict.specs.Verdicts.{roundedUp}
 use Rattle.verdict.proofs.Figured.{sum-next, sum-done}

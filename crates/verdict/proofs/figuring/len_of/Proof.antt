@@ -1,14 +1,10 @@
-use mathlib.Core.Path.{_≡_, ap, _∙_}
+use mathlib.Core.Path.{ap, _∙_}
 use mathlib.Core.List.{List}
 use Prim.Native.Nat.{ℕ}
-use Rattle.graph.specs.Graph.{longestOf}
 use borrow.Author.Needs.{needs}
+use Rattle.graph.specs.Graph.{longestOf}
 use Rattle.verdict.proofs.figuring.len_of.Statement.{statement}
 use Rattle.verdict.proofs.figuring.len_of.Tie as tie
-use Rattle.verdict.proofs.figuring.len_of.Reads as reads
-use Rattle.verdict.proofs.figuring.len_of.Lts as lts
-use Rattle.graph.proofs.longest.Reads as longest-reads
-use Rattle.verdict.proofs.figuring.own_costs.Reads as own-costs-reads
 
 own-costs-requires : tie.Need-own-costs-requires
 own-costs-requires c κs = search needs

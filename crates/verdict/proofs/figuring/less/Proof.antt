@@ -1,14 +1,12 @@
-use mathlib.Core.Path.{sym, ap, _∙_, subst}
+use mathlib.Core.Path.{sym, _∙_, subst}
 use lib.IntN.{ℤ}
 use mir.Syntax.{w64}
 use mir.Val.{SFits}
 use mir.Facts.{toZ-ofZ}
-use Rattle.verdict.proofs.Figured.{minus-fits, cast-minus}
 use borrow.Author.Needs.{needs}
+use Rattle.verdict.proofs.Figured.{minus-fits, cast-minus}
 use Rattle.verdict.proofs.figuring.less.Statement.{statement}
 use Rattle.verdict.proofs.figuring.less.Tie as tie
-use Rattle.verdict.proofs.figuring.less.Reads as reads
-use Rattle.verdict.proofs.figuring.less.Lts as lts
 
 cast-result : tie.Need-cast-result
 cast-result c = search needs

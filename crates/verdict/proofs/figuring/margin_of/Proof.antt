@@ -1,12 +1,9 @@
-use Prim.Native.Nat.{ℕ, _+_, _*_, _-_, _≤_}
+use Prim.Native.Nat.{_*_, _-_, _≤_}
 use native.Mathlib.Omega.{arith}
 use native.Mathlib.Nat.{mul-le-mul}
 use borrow.Author.Needs.{needs}
 use Rattle.verdict.proofs.figuring.margin_of.Statement.{statement}
 use Rattle.verdict.proofs.figuring.margin_of.Tie as tie
-use Rattle.verdict.proofs.figuring.margin_of.Reads as reads
-use Rattle.verdict.proofs.figuring.margin_of.Lts as lts
-use Rattle.verdict.proofs.figuring.less.Reads as less-reads
 
 allowed : (c : tie.Start) → c .args .m * c .args .d ≤ 8 * 1000000
 allowed c = mul-le-mul (c .pre .1) (c .pre .2)

@@ -1,13 +1,12 @@
-use borrow.Author.Needs.{needs}
-use Prim.Native.Nat.{ℕ, _+_, _*_, _-_, _≤_}
-use native.Mathlib.Omega.{arith}
+-- The loop's invariant: the costs of the vertices so far.
 use mathlib.Core.Path.{_≡_, refl}
+use Prim.Native.Nat.{_+_, _*_, _-_, _≤_}
+use native.Mathlib.Omega.{arith}
 use lib.ListN.{getD}
+use borrow.Author.Needs.{needs}
 use Rattle.verdict.proofs.Figured.{Filled, filled-none, filled-next, filled-row}
 use Rattle.verdict.proofs.figuring.own_costs.Statement.{statement}
 use Rattle.verdict.proofs.figuring.own_costs.Tie as tie
-use Rattle.verdict.proofs.figuring.own_costs.Reads as reads
-use Rattle.verdict.proofs.figuring.own_costs.Lts as lts
 
 abbrev Inv-loop : tie.InvT-loop
 Inv-loop costs i own₀ u₀ own u = (u ≤ 16) × Filled (λ x. getD costs (16 * i + x) 0) u own

@@ -1,14 +1,12 @@
-use borrow.Author.Needs.{needs}
-use Prim.Native.Nat.{ℕ, _-_, _≤_}
+-- The loop's invariant: the periods of the tasks so far.
+use mathlib.Core.Path.{refl}
+use Prim.Native.Nat.{_-_, _≤_}
 use native.Mathlib.Omega.{arith}
-use mathlib.Core.Path.{_≡_, refl}
+use borrow.Author.Needs.{needs}
 use Rattle.table.specs.Memory.{noTask, task, T}
-use Rattle.table.specs.Good.{GoodTable}
 use Rattle.verdict.proofs.Figured.{Filled, filled-none, filled-next}
 use Rattle.verdict.proofs.figuring.periods.Statement.{statement}
 use Rattle.verdict.proofs.figuring.periods.Tie as tie
-use Rattle.verdict.proofs.figuring.periods.Reads as reads
-use Rattle.verdict.proofs.figuring.periods.Lts as lts
 
 abbrev Inv-loop : tie.InvT-loop
 Inv-loop t times₀ i₀ times i = (i ≤ t .n) × Filled (T t) i times

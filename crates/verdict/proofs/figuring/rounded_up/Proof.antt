@@ -1,13 +1,10 @@
-use Prim.Native.Nat.{ℕ, _+_, _*_, _-_, _≤_}
+use mathlib.Core.Path.{refl}
 use native.Mathlib.Omega.{arith}
-use mathlib.Core.Path.{_≡_, refl}
+use borrow.Author.Needs.{needs}
 use Rattle.verdict.specs.Verdicts.{roundedUp}
 use Rattle.verdict.proofs.Amounts.{up-most}
-use borrow.Author.Needs.{needs}
 use Rattle.verdict.proofs.figuring.rounded_up.Statement.{statement}
 use Rattle.verdict.proofs.figuring.rounded_up.Tie as tie
-use Rattle.verdict.proofs.figuring.rounded_up.Reads as reads
-use Rattle.verdict.proofs.figuring.rounded_up.Lts as lts
 
 sub-result : tie.Need-sub-result
 sub-result c = search needs

@@ -1,15 +1,13 @@
-use borrow.Author.Needs.{needs}
+-- The loop's invariant: the sum of the costs so far, and a bound on it.
+use mathlib.Core.Path.{_≡_, refl, sym, ap₂, _∙_}
 use Prim.Native.Nat.{ℕ, _+_, _*_, _-_, _≤_}
 use native.Mathlib.Omega.{arith}
-use mathlib.Core.Path.{_≡_, refl, sym, ap, ap₂, _∙_}
 use lib.ListN.{getD}
+use borrow.Author.Needs.{needs}
 use Rattle.graph.specs.Words.{sum}
 use Rattle.verdict.proofs.Figured.{sum-next, sum-done}
 use Rattle.verdict.proofs.figuring.vol_of.Statement.{statement}
 use Rattle.verdict.proofs.figuring.vol_of.Tie as tie
-use Rattle.verdict.proofs.figuring.vol_of.Reads as reads
-use Rattle.verdict.proofs.figuring.vol_of.Lts as lts
-use Rattle.verdict.proofs.figuring.wide.Reads as wide-reads
 
 abbrev Inv-loop : tie.InvT-loop
 Inv-loop costs i v total₀ u₀ total u = (u ≤ v) × (total ≡ sum u (λ x. getD costs (16 * i + x) 0)) × (total ≤ u * 4294967296)

@@ -1,9 +1,9 @@
-use borrow.Author.Needs.{needs}
-use Prim.Native.Nat.{ℕ, _-_, _≤_, _<_}
+-- The loop's invariant: the vols of the tasks so far.
+use mathlib.Core.Path.{refl}
+use Prim.Native.Nat.{_-_, _≤_}
 use native.Mathlib.Omega.{arith}
-use mathlib.Core.Path.{_≡_, refl}
+use borrow.Author.Needs.{needs}
 use Rattle.table.specs.Memory.{noTask, task, vertices, cost}
-use Rattle.table.specs.Good.{GoodTask, GoodTable}
 use Rattle.verdict.specs.Verdicts.{vol}
 use Rattle.verdict.proofs.Figured.{Filled, filled-none, filled-next}
 use Rattle.verdict.proofs.figuring.volumes.Statement.{statement}
