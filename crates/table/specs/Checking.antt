@@ -1,5 +1,5 @@
 -- The writer's tests 3 to 7 on the table itself, in file order, each at the place that its field has in the file. They refuse
--- "exactly as a reader would for the bytes that the table stands for": theorem `checked-is`, proofs/Checked.antt.
+-- "exactly as a reader would for the bytes that the table stands for": theorem `checked-is`, proofs/Checks.antt.
 use mathlib.Core.Bool.{Bool, true, false, _&&_, not}
 use mathlib.Core.List.{List, [], _∷_}
 use Prim.Native.Nat.{ℕ, zero, suc, _+_, _*_, _/_, _%_, _^_, _<_}
