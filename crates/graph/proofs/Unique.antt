@@ -1,0 +1,20 @@
+-- For each public function: any two results that its contract allows are equal. The contract is the one that the checker reads from the source.
+use mathlib.Core.Path.{_≡_, sym, _∙_}
+use mathlib.Core.List.{List}
+use contract.Lifetimes.{Lfts}
+use denote.Triple.Clauses.{AtExit}
+use borrow.Fn.Kinds.{PK, RK, Out, Dens, resT, endedOf}
+use Rattle.graph.proofs.is_acyclic.Kinds as is-acyclic-kinds
+use Rattle.graph.proofs.is_acyclic.Reads as is-acyclic-reads
+
+-- two results that are each what a definition gives are equal
+pub by-definition {ℓ} : {X : Type ℓ} {defined r s : X} → r ≡ defined → s ≡ defined → r ≡ s
+by-definition p q = p ∙ sym q
+
+-- a contract allows one result at most, for any arguments
+abbrev pub OneResult : (ps : List (PK 0)) (r : RK 0) → Out 0 ps r → Type 0
+OneResult ps r Allowed =
+    (κs : Lfts 0) (args : Dens κs ps) (x y : resT r κs .Denot) (s t : AtExit (endedOf 0 ps r) κs) → Allowed κs args x s → Allowed κs args y t → x ≡ y
+
+pub is-acyclic-one : OneResult is-acyclic-kinds.ps is-acyclic-kinds.r is-acyclic-reads.Post
+is-acyclic-one κs args x y s t = by-definition

@@ -1,0 +1,43 @@
+-- The loop's invariant: what is left comes to nothing just if the test passes.
+use mathlib.Core.Path.{_≡_, sym, _∙_}
+use Prim.Native.Nat.{_<_, _^_}
+use native.Mathlib.Omega.{arith}
+use borrow.Author.Needs.{needs}
+use lib.Bits.{and-le-l}
+use Rattle.graph.specs.Graph.{acyclic}
+use Rattle.graph.proofs.Settle.{comesToNone, all-in, round-on, round-end}
+use Rattle.graph.proofs.is_acyclic.Statement.{statement}
+use Rattle.graph.proofs.is_acyclic.Tie as tie
+
+abbrev Inv-loop : tie.InvT-loop
+Inv-loop succ left₀ left = (left < 2 ^ 16) × (comesToNone succ left ≡ acyclic succ)
+
+abbrev μ-loop : tie.MeasureT-loop
+μ-loop succ left₀ left = left
+
+loop-holds : tie.Need-loop-holds Inv-loop μ-loop
+loop-holds c = (omega arith, all-in (c .args .succ))
+
+led-from-requires : tie.Need-led-from-requires Inv-loop μ-loop
+led-from-requires c κs = search needs
+
+returns : tie.Need-returns Inv-loop μ-loop
+returns c =
+    let a = c .before .before .before .args in
+    let l = c .before .before .loop in
+    let f = c .before .led-from in
+    sym (round-end (a .succ) (l .left) (f .result) (f .ensures) (l .inv .0) (c .if1 .taken)) ∙ l .inv .1
+
+loop-less : tie.Need-loop-less Inv-loop μ-loop
+loop-less c = omega (arith, and-le-l (c .before .before .loop .left) (c .before .led-from .result))
+
+loop-again : tie.Need-loop-again Inv-loop μ-loop
+loop-again c =
+    let a = c .before .before .before .args in
+    let l = c .before .before .loop in
+    let f = c .before .led-from in
+    (omega (arith, and-le-l (l .left) (f .result)), round-on (a .succ) (l .left) (f .result) (f .ensures) ∙ l .inv .1)
+
+pub is-acyclic-spec : {M : Type 1} → statement M
+is-acyclic-spec =
+    tie.close (tie.spec Inv-loop μ-loop loop-holds led-from-requires returns loop-less loop-again)
