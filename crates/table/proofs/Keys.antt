@@ -19,11 +19,11 @@ use Rattle.table.specs.Writing.{edgeKeys}
 use Rattle.table.specs.Checking.{rowKeys, keysOf}
 
 -- bit 0, and the bits above it
-bit-low : (x : ℕ) → bit x 0 ≡ eqb (x % 2) 1
+pub bit-low : (x : ℕ) → bit x 0 ≡ eqb (x % 2) 1
 unfolding bit
 bit-low x = ap (λ (n : ℕ). eqb (n % 2) 1) (div-one x)
 
-bit-up : (x j : ℕ) → bit x (suc j) ≡ bit (x / 2) j
+pub bit-up : (x j : ℕ) → bit x (suc j) ≡ bit (x / 2) j
 unfolding bit
 bit-up x j = rw one-add at (ap (λ (n : ℕ). eqb (n % 2) 1) (sym (shr-shr x 1 j)))
 

@@ -75,3 +75,59 @@ fn row_walked(bits: u16, u: usize, v: usize, at: usize) -> Checked
         next: p,
     }
 }
+
+// The edges of vertex u: where no bit is refused, the place after them is at once known.
+fn row_tested(bits: u16, u: usize, v: usize, at: usize) -> Checked
+    requires { ⌜ (u < 16) × (v ≤ 16) × (at ≤ 1000000) ⌝ }
+    ensures { λ r. ⌜ r ≡ edgesTested v (rowKeys 16 u 0 bits) at ⌝ }
+{
+    let high = (bits as u32) >> v;
+    if high == 0 {
+        if (bits >> u) % 2 == 0 {
+            return Checked {
+                outcome: Outcome::Read,
+                next: at + 2 * (u16::count_ones(bits) as usize),
+            };
+        }
+    }
+    row_walked(bits, u, v, at)
+}
+
+// The edges of the first v vertices.
+fn edges_tested(succ: [u16; 16], v: usize, at: usize) -> Checked
+    requires { ⌜ (v ≤ 16) × (at ≤ 900000) ⌝ }
+    ensures { λ r. ⌜ r ≡ edgesTested v (keysOf v succ) at ⌝ }
+{
+    let mut p = at;
+    let mut u: usize = 0;
+    while u < v {
+        let r = row_tested(succ[u], u, v, p);
+        let o = r.outcome;
+        let Outcome::Read = o else {
+            return Checked {
+                outcome: o,
+                next: 0,
+            };
+        };
+        p = r.next;
+        u += 1;
+    }
+    Checked {
+        outcome: Outcome::Read,
+        next: p,
+    }
+}
+
+// The successors of the first v vertices, and none from v on.
+fn used_rows(succ: [u16; 16], v: usize) -> [u16; 16]
+    requires { ⌜ v ≤ 16 ⌝ }
+    ensures { λ r. ⌜ r ≡ usedRows v succ ⌝ }
+{
+    let mut rows = [0u16; 16];
+    let mut u: usize = 0;
+    while u < v {
+        rows[u] = succ[u];
+        u += 1;
+    }
+    rows
+}
