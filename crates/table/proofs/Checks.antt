@@ -187,8 +187,8 @@ module _ (t : Table) (typed : Typed t) where
     abbrev TaskAgree : TaskRead → Checked → ℕ → Type 0
     TaskAgree = Agree (λ (x : TaskRead). x .outcome) (λ (x : TaskRead). x .next) badTask out-task
 
-    parts-as : (d p : ℕ) → v ≤ 16 → TaskAgree (partsAt s at v (length ks) d p) (partsTested (task t i) (t .costs) (16 * i) at v) end
-    unfolding partsAt partsTested succ
+    parts-as : (d p : ℕ) → v ≤ 16 → TaskAgree (partsAt s at v (length ks) d p) (partsTested (succ t i) (t .costs) (16 * i) at v) end
+    unfolding partsAt partsTested
     parts-as d p hv =
         let out : TaskRead → Outcome = λ (x : TaskRead). x .outcome in
         let next : TaskRead → ℕ = λ (x : TaskRead). x .next in

@@ -10,8 +10,11 @@ use Rattle.table.specs.declared.Outcome.{Outcome}
 use Rattle.table.specs.declared.Outcome.the-variants.{Read, Short, Mark, Range, Ticks, Order, Edge, Cycle, Extra}
 use Rattle.table.specs.Reading.{whenRead}
 
+abbrev pub NotRead : Outcome → Type 0
+NotRead o = OneOf (1 ∷ 2 ∷ 3 ∷ 4 ∷ 5 ∷ 6 ∷ 7 ∷ 8 ∷ []) (tagOf the-type o)
+
 pub otherwise {ℓ} : {X : Type ℓ} (o : Outcome) (stop : Outcome → X) (go : Unit {0} → X)
-    → OneOf (1 ∷ 2 ∷ 3 ∷ 4 ∷ 5 ∷ 6 ∷ 7 ∷ 8 ∷ []) (tagOf the-type o) → stop o ≡ whenRead o stop go
+    → NotRead o → stop o ≡ whenRead o stop go
 otherwise Read stop go h = absurd (miss (1 ∷ 2 ∷ 3 ∷ 4 ∷ 5 ∷ 6 ∷ 7 ∷ 8 ∷ []) 0 tt h)
 otherwise (Short p) stop go h = refl
 otherwise (Mark p) stop go h = refl

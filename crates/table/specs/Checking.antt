@@ -55,12 +55,12 @@ unfoldable pub usedRows : ℕ → List ℕ → List ℕ
 usedRows v succ = row 16 (λ u. pick (ltb u v) (getD succ u 0) 0)
 
 -- A TASK at a place: v; e, "its range is tested before it is cut to a byte"; D; T and 5; its costs; its edges; 7 at the mark
-unfoldable pub partsTested : Task → List ℕ → ℕ → ℕ → ℕ → Checked
-partsTested a costs slot at v =
+unfoldable pub partsTested : List ℕ → List ℕ → ℕ → ℕ → ℕ → Checked
+partsTested succ costs slot at v =
     whenRead (costsTested costs v (at + 12) slot) stopped λ _.
-    let g = edgesTested v (keysOf v (a .succ)) (at + 12 + 4 * v) in
+    let g = edgesTested v (keysOf v succ) (at + 12 + 4 * v) in
     whenRead (g .outcome) stopped λ _.
-    pick (acyclic (usedRows v (a .succ))) (record { outcome = Read; next = g .next }) (stopped (Cycle at))
+    pick (acyclic (usedRows v succ)) (record { outcome = Read; next = g .next }) (stopped (Cycle at))
 
 unfoldable pub taskTested : Task → List ℕ → ℕ → ℕ → Checked
 taskTested a costs slot at =
@@ -68,7 +68,7 @@ taskTested a costs slot at =
     onward (ranged Range 0 120 (at + 3) (length (keysOf v (a .succ)))) stopped λ _.
     onward (ranged Ticks 1 1000000 (at + 4) (a .d)) stopped λ d.
     onward (notUnder d (at + 8) (ranged Ticks 1 1000000 (at + 8) (a .t))) stopped λ _.
-    partsTested a costs slot at v
+    partsTested (a .succ) costs slot at v
 
 -- THE TASKS, k of them from i on, "costs lie in one row of 256 numbers, sixteen a task"
 unfoldable pub tasksTested : Table → ℕ → ℕ → ℕ → Checked

@@ -2,7 +2,7 @@
 ghost use mathlib.Core.Path.{_≡_};
 ghost use Prim.Native.Nat.{_+_, _*_, _≤_, _<_};
 ghost use lib.ListN.{length};
-ghost use Rattle.table.specs.Checking.{rowKeys, keysOf, edgesTested, costsTested, usedRows, partsTested, taskTested, tasksTested, checked};
+ghost use Rattle.table.specs.Checking.{stopped, rowKeys, keysOf, edgesTested, costsTested, usedRows, partsTested, taskTested, tasksTested, checked};
 use crate::Checked;
 use crate::Outcome;
 use crate::Table;
@@ -130,4 +130,37 @@ fn used_rows(succ: [u16; 16], v: usize) -> [u16; 16]
         u += 1;
     }
     rows
+}
+
+// A refusal, with no place after it.
+fn stop(o: Outcome) -> Checked
+    ensures { λ r. ⌜ r ≡ stopped o ⌝ }
+{
+    Checked {
+        outcome: o,
+        next: 0,
+    }
+}
+
+// A task's costs, edges and cycles.
+fn check_parts(succ: [u16; 16], costs: &[u32; 256], slot: usize, v: usize, at: usize) -> Checked
+    requires { ⌜ (v ≤ 16) × (slot + v ≤ 256) × (at ≤ 800000) ⌝ }
+    ensures { λ r. ⌜ r ≡ partsTested succ (now (costs .entry)) slot at v ⌝ }
+{
+    let o = costs_tested(costs, slot, v, at + 12);
+    let Outcome::Read = o else {
+        return stop(o);
+    };
+    let g = edges_tested(succ, v, at + 12 + 4 * v);
+    let p = g.outcome;
+    let Outcome::Read = p else {
+        return stop(p);
+    };
+    if graph::is_acyclic(used_rows(succ, v)) {
+        return Checked {
+            outcome: Outcome::Read,
+            next: g.next,
+        };
+    }
+    stop(Outcome::Cycle(at))
 }
