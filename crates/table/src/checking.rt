@@ -164,3 +164,82 @@ fn check_parts(succ: [u16; 16], costs: &[u32; 256], slot: usize, v: usize, at: u
     }
     stop(Outcome::Cycle(at))
 }
+
+// A task: its fields in order, then its parts.
+fn check_task(task: Task, costs: &[u32; 256], slot: usize, at: usize) -> Checked
+    requires { ⌜ (slot + 16 ≤ 256) × (at ≤ 800000) ⌝ }
+    ensures { λ r. ⌜ r ≡ taskTested task (now (costs .entry)) slot at ⌝ }
+{
+    let v = task.v as usize;
+    if v < 1 {
+        return stop(Outcome::Range(at + 2));
+    }
+    if 16 < v {
+        return stop(Outcome::Range(at + 2));
+    }
+    let succ = task.succ;
+    if 120 < edge_count(succ, v) {
+        return stop(Outcome::Range(at + 3));
+    }
+    let d = task.d;
+    if d < 1 {
+        return stop(Outcome::Ticks(at + 4));
+    }
+    if 1_000_000 < d {
+        return stop(Outcome::Ticks(at + 4));
+    }
+    let t = task.t;
+    if t < 1 {
+        return stop(Outcome::Ticks(at + 8));
+    }
+    if 1_000_000 < t {
+        return stop(Outcome::Ticks(at + 8));
+    }
+    if t < d {
+        return stop(Outcome::Order(at + 8));
+    }
+    check_parts(succ, costs, slot, v, at)
+}
+
+// The tasks in order.
+fn check_tasks(table: Table) -> Checked
+    requires { ⌜ table .n ≤ 16 ⌝ }
+    ensures { λ r. ⌜ r ≡ tasksTested table (table .n) 0 4 ⌝ }
+{
+    let n = table.n as usize;
+    let mut at: usize = 4;
+    let mut i: usize = 0;
+    while i < n {
+        let task = table.tasks[i];
+        let r = check_task(task, &table.costs, 16 * i, at);
+        let o = r.outcome;
+        let Outcome::Read = o else {
+            return stop(o);
+        };
+        at = r.next;
+        i += 1;
+    }
+    Checked {
+        outcome: Outcome::Read,
+        next: at,
+    }
+}
+
+// The tests 3 to 7 on a table: the refusal that a reader would give for the bytes that it stands for, or their number.
+pub(crate) fn check(table: Table) -> Checked
+    ensures { λ r. ⌜ r ≡ checked table ⌝ }
+{
+    if table.m < 1 {
+        return stop(Outcome::Range(2));
+    }
+    if 8 < table.m {
+        return stop(Outcome::Range(2));
+    }
+    if table.n < 1 {
+        return stop(Outcome::Range(3));
+    }
+    if 16 < table.n {
+        return stop(Outcome::Range(3));
+    }
+    check_tasks(table)
+}
