@@ -1,6 +1,6 @@
 -- The writer's tests 3 to 7 on the table itself, in file order, each at the place that its field has in the file. They refuse
 -- "exactly as a reader would for the bytes that the table stands for": theorem `checked-is`, proofs/Checks.antt.
-use mathlib.Core.Bool.{Bool, true, false, _&&_, not}
+use mathlib.Core.Bool.{Bool, true, false, _&&_, _||_, not}
 use mathlib.Core.List.{List, [], _∷_}
 use Prim.Native.Nat.{ℕ, zero, suc, _+_, _*_, _/_, _%_, _^_, _<_}
 use lib.ListN.{length, getD}
@@ -12,7 +12,7 @@ use Rattle.table.specs.declared.Outcome.the-variants.{Read, Range, Ticks
 use Rattle.table.specs.declared.Checked.{Checked}
 use Rattle.table.specs.declared.Field.{Field}
 use Rattle.table.specs.declared.Field.the-variants.{Stop, Got}
-use Rattle.graph.specs.Words.{pick, row, alsoIf, inOrder}
+use Rattle.graph.specs.Words.{pick, all, row, alsoIf, inOrder}
 use Rattle.graph.specs.Graph.{acyclic}
 use Rattle.table.specs.Memory.{task, D, T, succ, cost}
 use Rattle.table.specs.Reading.{onward, whenRead, ranged, notUnder}
@@ -82,3 +82,12 @@ unfoldable pub checked : Table → Checked
 checked t =
     onward (ranged Range 1 8 2 (t .m)) stopped λ _.
     onward (ranged Range 1 16 3 (t .n)) stopped λ n. tasksTested t n 0 4
+
+-- 10, entry by entry: "in a task the costs and successors of vertices from v on", here from vertex `from` on
+unfoldable pub zeroFrom : List ℕ → List ℕ → ℕ → ℕ → Bool
+zeroFrom succ costs slot from = all 16 (λ u. ltb u from || (eqb (getD costs (slot + u) 0) 0 && eqb (getD succ u 0) 0))
+
+-- "those of tasks from n on" are zero wholly; `unusedZero` is this of all sixteen (law `unused-is`, proofs/UnusedLaws.antt)
+unfoldable pub unusedIn : Task → List ℕ → ℕ → Bool → Bool
+unusedIn a costs slot used =
+    pick used (zeroFrom (a .succ) costs slot (a .v)) (eqb (a .v) 0 && eqb (a .d) 0 && eqb (a .t) 0 && zeroFrom (a .succ) costs slot 0)
