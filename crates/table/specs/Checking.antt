@@ -1,7 +1,7 @@
 -- The writer's tests 3 to 7 on the table itself, in file order, each at the place that its field has in the file. They refuse
 -- "exactly as a reader would for the bytes that the table stands for": theorem `checked-is`, proofs/Checks.antt.
 use mathlib.Core.Bool.{Bool, true, false, _&&_, _||_, not}
-use mathlib.Core.List.{List, [], _∷_}
+use mathlib.Core.List.{List, [], _∷_, _++_}
 use Prim.Native.Nat.{ℕ, zero, suc, _+_, _*_, _/_, _%_, _^_, _<_}
 use lib.ListN.{length, getD}
 use lib.Dec.{ltb, eqb}
@@ -16,6 +16,7 @@ use Rattle.graph.specs.Words.{pick, all, row, alsoIf, inOrder}
 use Rattle.graph.specs.Graph.{acyclic}
 use Rattle.table.specs.Memory.{task, D, T, succ, cost}
 use Rattle.table.specs.Reading.{onward, whenRead, ranged, notUnder}
+use Rattle.table.specs.Writing.{bytes4, edgeBytes}
 
 -- the numbers of a table are numbers of their types: 32 bits for D, T and a cost, sixteen bits for a vertex's successors
 pub record Typed (t : Table) : Type 0 where
@@ -91,3 +92,12 @@ zeroFrom succ costs slot from = all 16 (λ u. ltb u from || (eqb (getD costs (sl
 unfoldable pub unusedIn : Task → List ℕ → ℕ → Bool → Bool
 unusedIn a costs slot used =
     pick used (zeroFrom (a .succ) costs slot (a .v)) (eqb (a .v) 0 && eqb (a .d) 0 && eqb (a .t) 0 && zeroFrom (a .succ) costs slot 0)
+
+-- THE BYTES OF A TASK, part by part: v costs from a slot of the row on; and the whole (law `task-bytes`, proofs/PutLaws.antt)
+unfoldable pub costBytes : List ℕ → ℕ → ℕ → List ℕ
+costBytes costs slot v = inOrder v (λ u. bytes4 (getD costs (slot + u) 0))
+
+unfoldable pub taskBytes : Task → List ℕ → ℕ → List ℕ
+taskBytes a costs slot =
+    0x54 ∷ 0x4B ∷ a .v ∷ length (keysOf (a .v) (a .succ))
+    ∷ (bytes4 (a .d) ++ (bytes4 (a .t) ++ (costBytes costs slot (a .v) ++ edgeBytes (keysOf (a .v) (a .succ)))))

@@ -1,0 +1,79 @@
+// Writing a table into a lent buffer: document 01, "Numbers for reading and writing".
+ghost use mathlib.Core.Path.{_≡_};
+ghost use mathlib.Core.List.{[], _∷_};
+ghost use Prim.Native.Nat.{_+_, _*_, _≤_, _<_};
+ghost use lib.ListN.{length};
+ghost use lib.Seq.{sets};
+ghost use Rattle.table.specs.Writing.{bytes4, edgeBytes};
+ghost use Rattle.table.specs.Checking.{rowKeys, keysOf, costBytes, taskBytes};
+
+// Four bytes at a place, the lowest first.
+fn put4(buffer: &mut [u8], at: usize, x: u32)
+    requires { ⌜ at + 4 ≤ length (now buffer) ⌝ }
+    ensures { λ _. ⌜ now (buffer .exit) ≡ sets (now (buffer .entry)) at (bytes4 x) ⌝ }
+{
+    buffer[at] = (x % 256) as u8;
+    buffer[at + 1] = (x / 256 % 256) as u8;
+    buffer[at + 2] = (x / 65536 % 256) as u8;
+    buffer[at + 3] = (x / 16777216 % 256) as u8;
+}
+
+// A record's mark, 54 and its own second byte, and its two counts.
+fn put_head(buffer: &mut [u8], at: usize, mark: u8, first: u8, second: u8)
+    requires { ⌜ at + 4 ≤ length (now buffer) ⌝ }
+    ensures { λ _. ⌜ now (buffer .exit) ≡ sets (now (buffer .entry)) at (0x54 ∷ mark ∷ first ∷ second ∷ []) ⌝ }
+{
+    buffer[at] = 0x54;
+    buffer[at + 1] = mark;
+    buffer[at + 2] = first;
+    buffer[at + 3] = second;
+}
+
+// The costs of a task of v vertices, from a slot of the row on.
+fn put_costs(buffer: &mut [u8], at: usize, costs: &[u32; 256], slot: usize, v: usize)
+    requires { ⌜ (at + 4 * v ≤ length (now buffer)) × (slot + v ≤ 256) ⌝ }
+    ensures { λ _. ⌜ now (buffer .exit) ≡ sets (now (buffer .entry)) at (costBytes (now (costs .entry)) slot v) ⌝ }
+{
+    let mut p = at;
+    let mut u: usize = 0;
+    while u < v {
+        let x = costs[slot + u];
+        put4(&mut *buffer, p, x);
+        p += 4;
+        u += 1;
+    }
+}
+
+// The edges of vertex u, from one set bit to the next.
+fn put_row(buffer: &mut [u8], at: usize, u: u8, bits: u16) -> usize
+    requires { ⌜ (u < 16) × (at + 2 * length (rowKeys 16 u 0 bits) ≤ length (now buffer)) ⌝ }
+    ensures { λ r. ⌜ (now (buffer .exit) ≡ sets (now (buffer .entry)) at (edgeBytes (rowKeys 16 u 0 bits))) × (r ≡ at + 2 * length (rowKeys 16 u 0 bits)) ⌝ }
+{
+    let mut x = bits;
+    let mut p = at;
+    let mut w: u32 = 0;
+    while x != 0 {
+        let z = u16::trailing_zeros(x);
+        w += z;
+        buffer[p] = u;
+        buffer[p + 1] = (w % 256) as u8;
+        p += 2;
+        x = (x >> z) / 2;
+        w += 1;
+    }
+    p
+}
+
+// The edges of the first v vertices.
+fn put_edges(buffer: &mut [u8], at: usize, succ: [u16; 16], v: usize) -> usize
+    requires { ⌜ (v ≤ 16) × (at + 2 * length (keysOf v succ) ≤ length (now buffer)) ⌝ }
+    ensures { λ r. ⌜ (now (buffer .exit) ≡ sets (now (buffer .entry)) at (edgeBytes (keysOf v succ))) × (r ≡ at + 2 * length (keysOf v succ)) ⌝ }
+{
+    let mut p = at;
+    let mut u: usize = 0;
+    while u < v {
+        p = put_row(&mut *buffer, p, (u % 256) as u8, succ[u]);
+        u += 1;
+    }
+    p
+}
