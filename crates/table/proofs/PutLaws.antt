@@ -140,3 +140,39 @@ rows-bytes v succ u h = ap edgeBytes (keys-next v succ u h) ∙ edges-join (rowK
 
 pub rows-long : (v : ℕ) (succ : List ℕ) (u : ℕ) → u < v → length (keysFrom v succ u) ≡ length (rowKeys 16 u 0 (getD succ u 0)) + length (keysFrom v succ (u + 1))
 rows-long v succ u h = ap length (keys-next v succ u h) ∙ length-append (rowKeys 16 u 0 (getD succ u 0)) (keysFrom v succ (u + 1))
+
+-- ---- a task record
+costs-long : (costs : List ℕ) (slot k j : ℕ) → length (joinFrom k j (λ u. bytes4 (getD costs (slot + u) 0))) ≡ 4 * k
+unfolding joinFrom bytes4
+costs-long costs slot zero j = refl
+costs-long costs slot (suc k) j = let h = costs-long costs slot k (suc j) in omega arith
+
+pub task-long : (a : Task) (costs : List ℕ) (slot : ℕ) → length (taskBytes a costs slot) ≡ 12 + 4 * a .v + 2 * length (keysOf (a .v) (a .succ))
+unfolding taskBytes costBytes inOrder bytes4
+task-long a costs slot =
+    let c = costs-long costs slot (a .v) 0 in
+    let d = edges-long (keysOf (a .v) (a .succ)) in
+    let e = length-append (joinFrom (a .v) 0 (λ u. bytes4 (getD costs (slot + u) 0))) (edgeBytes (keysOf (a .v) (a .succ))) in
+    omega arith
+
+cost-long : (costs : List ℕ) (slot v : ℕ) → length (costBytes costs slot v) ≡ 4 * v
+unfolding costBytes inOrder
+cost-long costs slot v = costs-long costs slot v 0
+
+-- its five parts, one after the other
+pub task-put : (a : Task) (costs l l₁ l₂ l₃ l₄ l₅ : List ℕ) (slot at : ℕ)
+    → l₁ ≡ sets l at (0x54 ∷ 0x4B ∷ a .v ∷ length (keysOf (a .v) (a .succ)) ∷ [])
+    → l₂ ≡ sets l₁ (at + 4) (bytes4 (a .d)) → l₃ ≡ sets l₂ (at + 8) (bytes4 (a .t)) → l₄ ≡ sets l₃ (at + 12) (costBytes costs slot (a .v))
+    → l₅ ≡ sets l₄ (at + 12 + 4 * a .v) (edgeBytes (keysOf (a .v) (a .succ))) → l₅ ≡ sets l at (taskBytes a costs slot)
+unfolding taskBytes
+task-put a costs l l₁ l₂ l₃ l₄ l₅ slot at e₁ e₂ e₃ e₄ e₅ =
+    let E : List ℕ = edgeBytes (keysOf (a .v) (a .succ)) in
+    let C : List ℕ = costBytes costs slot (a .v) in
+    let n : at + 12 + 4 * a .v ≡ at + 12 + length C = ap (λ (k : ℕ). at + 12 + k) (sym (cost-long costs slot (a .v))) in
+    let h₃ : at + 12 ≡ at + 8 + length (bytes4 (a .t)) = let z = four-long (a .t) in omega arith in
+    let h₂ : at + 8 ≡ at + 4 + length (bytes4 (a .d)) = let z = four-long (a .d) in omega arith in
+    let h₁ : at + 4 ≡ at + length (0x54 ∷ 0x4B ∷ a .v ∷ length (keysOf (a .v) (a .succ)) ∷ []) = refl in
+    e₅ ∙ sets-then C E l₃ l₄ (at + 12) (at + 12 + 4 * a .v) e₄ n
+    ∙ sets-then (bytes4 (a .t)) (C ++ E) l₂ l₃ (at + 8) (at + 12) e₃ h₃
+    ∙ sets-then (bytes4 (a .d)) (bytes4 (a .t) ++ (C ++ E)) l₁ l₂ (at + 4) (at + 8) e₂ h₂
+    ∙ sets-then (0x54 ∷ 0x4B ∷ a .v ∷ length (keysOf (a .v) (a .succ)) ∷ []) (bytes4 (a .d) ++ (bytes4 (a .t) ++ (C ++ E))) l l₁ at (at + 4) e₁ h₁

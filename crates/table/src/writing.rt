@@ -4,8 +4,16 @@ ghost use mathlib.Core.List.{[], _∷_};
 ghost use Prim.Native.Nat.{_+_, _*_, _≤_, _<_};
 ghost use lib.ListN.{length};
 ghost use lib.Seq.{sets};
-ghost use Rattle.table.specs.Writing.{bytes4, edgeBytes};
-ghost use Rattle.table.specs.Checking.{rowKeys, keysOf, costBytes, taskBytes};
+ghost use Rattle.graph.specs.Words.{inOrder};
+ghost use Rattle.table.specs.declared.Outcome.the-variants.{Read};
+ghost use Rattle.table.specs.Writing.{bytes4, edgeBytes, encodeTask, encode, writing, written};
+ghost use Rattle.table.specs.Checking.{rowKeys, keysOf, costBytes, taskBytes, checked};
+use crate::Outcome;
+use crate::Table;
+use crate::Task;
+use crate::Written;
+use crate::checking;
+use crate::unused;
 
 // Four bytes at a place, the lowest first.
 fn put4(buffer: &mut [u8], at: usize, x: u32)
@@ -76,4 +84,20 @@ fn put_edges(buffer: &mut [u8], at: usize, succ: [u16; 16], v: usize) -> usize
         u += 1;
     }
     p
+}
+
+// A task record, whose counts are in their ranges.
+fn put_task(buffer: &mut [u8], at: usize, task: Task, costs: &[u32; 256], slot: usize) -> usize
+    requires { ⌜ (task .v ≤ 16) × (length (keysOf (task .v) (task .succ)) ≤ 120) × (slot + 16 ≤ 256) ⌝ }
+    requires { ⌜ at + length (taskBytes task (now costs) slot) ≤ length (now buffer) ⌝ }
+    ensures { λ r. ⌜ (now (buffer .exit) ≡ sets (now (buffer .entry)) at (taskBytes task (now (costs .entry)) slot)) × (r ≡ at + length (taskBytes task (now (costs .entry)) slot)) ⌝ }
+{
+    let v = task.v as usize;
+    let succ = task.succ;
+    let e = checking::edge_count(succ, v);
+    put_head(&mut *buffer, at, 0x4B, task.v, (e % 256) as u8);
+    put4(&mut *buffer, at + 4, task.d);
+    put4(&mut *buffer, at + 8, task.t);
+    put_costs(&mut *buffer, at + 12, costs, slot, v);
+    put_edges(&mut *buffer, at + 12 + 4 * v, succ, v)
 }
