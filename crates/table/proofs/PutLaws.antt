@@ -176,3 +176,33 @@ task-put a costs l l₁ l₂ l₃ l₄ l₅ slot at e₁ e₂ e₃ e₄ e₅ =
     ∙ sets-then (bytes4 (a .t)) (C ++ E) l₂ l₃ (at + 8) (at + 12) e₃ h₃
     ∙ sets-then (bytes4 (a .d)) (bytes4 (a .t) ++ (C ++ E)) l₁ l₂ (at + 4) (at + 8) e₂ h₂
     ∙ sets-then (0x54 ∷ 0x4B ∷ a .v ∷ length (keysOf (a .v) (a .succ)) ∷ []) (bytes4 (a .d) ++ (bytes4 (a .t) ++ (C ++ E))) l l₁ at (at + 4) e₁ h₁
+
+-- A TASK'S BYTES, PART BY PART, ARE WHAT IT STANDS FOR
+pub task-bytes : (t : Table) (i : ℕ) → encodeTask t i ≡ taskBytes (task t i) (t .costs) (16 * i)
+unfolding encodeTask taskBytes costBytes vertices D T succ cost
+task-bytes t i = rw (← keys-are t i) (simp append-assoc)
+
+-- ---- the tasks from i on
+unfoldable pub tasksFrom : Table → ℕ → List ℕ
+tasksFrom t i = joinFrom (t .n - i) i (encodeTask t)
+
+pub tasks-first : (t : Table) → tasksFrom t 0 ≡ inOrder (t .n) (encodeTask t)
+unfolding tasksFrom inOrder
+tasks-first t = ap (λ (k : ℕ). joinFrom k 0 (encodeTask t)) (sub-zero (t .n))
+
+pub tasks-then : (t : Table) (i : ℕ) → i < t .n → tasksFrom t i ≡ taskBytes (task t i) (t .costs) (16 * i) ++ tasksFrom t (i + 1)
+unfolding tasksFrom
+tasks-then t i h = join-next (encodeTask t) (t .n) i h ∙ ap (λ (l : List ℕ). l ++ joinFrom (t .n - (i + 1)) (i + 1) (encodeTask t)) (task-bytes t i)
+
+pub tasks-done : (t : Table) (i : ℕ) → t .n ≤ i → tasksFrom t i ≡ []
+unfolding tasksFrom
+tasks-done t i h = join-end (encodeTask t) (t .n) i h
+
+-- ---- the file: its head, then its tasks
+pub file-put : (t : Table) (l l₁ l₂ : List ℕ) → l₁ ≡ sets l 0 (0x54 ∷ 0x42 ∷ t .m ∷ t .n ∷ []) → l₂ ≡ sets l₁ 4 (inOrder (t .n) (encodeTask t)) → l₂ ≡ sets l 0 (encode t)
+unfolding encode
+file-put t l l₁ l₂ e₁ e₂ = e₂ ∙ sets-then (0x54 ∷ 0x42 ∷ t .m ∷ t .n ∷ []) (inOrder (t .n) (encodeTask t)) l l₁ 0 4 e₁ refl
+
+pub file-long : (t : Table) → length (encode t) ≡ 4 + length (inOrder (t .n) (encodeTask t))
+unfolding encode
+file-long t = omega arith

@@ -101,3 +101,18 @@ fn put_task(buffer: &mut [u8], at: usize, task: Task, costs: &[u32; 256], slot: 
     put_costs(&mut *buffer, at + 12, costs, slot, v);
     put_edges(&mut *buffer, at + 12 + 4 * v, succ, v)
 }
+
+// The task records of a table that the tests let through.
+fn put_tasks(buffer: &mut [u8], table: Table)
+    requires { ⌜ (checked table .outcome ≡ Read) × (4 + length (inOrder (table .n) (encodeTask table)) ≤ length (now buffer)) ⌝ }
+    ensures { λ _. ⌜ now (buffer .exit) ≡ sets (now (buffer .entry)) 4 (inOrder (table .n) (encodeTask table)) ⌝ }
+{
+    let n = table.n as usize;
+    let mut p: usize = 4;
+    let mut i: usize = 0;
+    while i < n {
+        let task = table.tasks[i];
+        p = put_task(&mut *buffer, p, task, &table.costs, 16 * i);
+        i += 1;
+    }
+}
