@@ -116,3 +116,24 @@ fn put_tasks(buffer: &mut [u8], table: Table)
         i += 1;
     }
 }
+
+// Writes what a table stands for to the front of the buffer, or refuses and writes nothing.
+pub fn write(table: Table, buffer: &mut [u8]) -> Written
+    ensures { λ r. ⌜ (r ≡ writing table (length (now (buffer .entry)))) × (now (buffer .exit) ≡ written table (now (buffer .entry))) ⌝ }
+{
+    let c = checking::check(table);
+    let o = c.outcome;
+    let Outcome::Read = o else {
+        return Written::Refused(o);
+    };
+    if !unused::unused_zero(table) {
+        return Written::Unused;
+    }
+    let l = c.next;
+    if buffer.len() < l {
+        return Written::Room(l);
+    }
+    put_head(&mut *buffer, 0, 0x42, table.m, table.n);
+    put_tasks(&mut *buffer, table);
+    Written::Done(l)
+}
