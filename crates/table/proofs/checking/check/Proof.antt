@@ -1,4 +1,4 @@
-use Rattle.table.proofs.TaskLaws.{m-under, m-over, n-under, n-over, then-tasks}
+use Rattle.table.proofs.TaskTests.{m-under, m-over, n-under, n-over, then-tasks}
 use native.Mathlib.Omega.{arith}
 use mathlib.Core.Path.{_≡_, refl, sym, ap, _∙_}
 use borrow.Author.Needs.{needs}

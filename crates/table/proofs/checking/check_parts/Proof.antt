@@ -3,7 +3,7 @@ use Rattle.table.specs.declared.Outcome.the-variants.{Read, Cycle}
 use Rattle.graph.specs.Words.{pick}
 use Rattle.graph.specs.Graph.{acyclic}
 use mathlib.Core.Bool.{Bool}
-use Rattle.table.proofs.TaskLaws.{parts-costs, parts-edges, parts-last}
+use Rattle.table.proofs.TaskTests.{parts-costs, parts-edges, parts-last}
 use mathlib.Core.Path.{_≡_, refl, sym, ap, _∙_}
 use borrow.Author.Needs.{needs}
 use Rattle.table.proofs.checking.check_parts.Statement.{statement}

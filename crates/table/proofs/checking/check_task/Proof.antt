@@ -1,4 +1,4 @@
-use Rattle.table.proofs.TaskLaws.{v-under, v-over, e-over, d-under, d-over, t-under, t-over, t-early, then-parts}
+use Rattle.table.proofs.TaskTests.{v-under, v-over, e-over, d-under, d-over, t-under, t-over, t-early, then-parts}
 use native.Mathlib.Omega.{arith}
 use mathlib.Core.Path.{_≡_, refl, sym, ap, _∙_}
 use borrow.Author.Needs.{needs}

@@ -6,7 +6,7 @@ use mathlib.Core.Path.{_≡_, refl, sym, ap, _∙_}
 use native.Mathlib.Omega.{arith}
 use borrow.Author.Needs.{needs}
 use Rattle.table.specs.Checking.{tasksTested}
-use Rattle.table.proofs.TaskLaws.{task-next, tasks-stop, tasks-go, tasks-end}
+use Rattle.table.proofs.TaskTests.{task-next, tasks-stop, tasks-go, tasks-end}
 use Rattle.table.proofs.checking.check_tasks.Statement.{statement}
 use Rattle.table.proofs.checking.check_tasks.Tie as tie
 use Rattle.table.proofs.checking.check_tasks.Reads as reads
