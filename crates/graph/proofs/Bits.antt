@@ -1,14 +1,13 @@
 -- Laws of a number's bits: a number of sixteen bits as a set of numbers.
-use mathlib.Core.Path.{_≡_, refl, sym, ap, _∙_, subst}
-use mathlib.Core.Bool.{Bool, true, false, not, _&&_, _||_, true≢false, false≢true, and-false}
+use mathlib.Core.Path.{_≡_, refl, sym, ap, _∙_}
+use mathlib.Core.Bool.{Bool, true, false, not, _&&_, _||_, true≢false, false≢true}
 use Prim.Native.Nat.{ℕ, zero, suc, _+_, _-_, _*_, _/_, _%_, _^_, _<_, _≤_, suc-le-suc}
 use native.Mathlib.Nat.{mod-lt, zero-lt-suc, div-eq-of-lt, lt-of-lt-of-le, zero-div, div-one, pow-suc, le-of-suc-le-suc, not-suc-le-zero}
 use native.Mathlib.Omega.{arith}
 use native.Mathlib.Numerals.{add-one, one-add}
 use lib.Dec.{eqb, lit<, eqb·suc-zero, eqb·zero-suc, eqb·suc-suc}
-use lib.Bits.{bitAnd, bitOr, or-shr, or-mod, and-shr, and-mod, and-lt, shifted-half, shifted-even}
-use borrow.Author.Tests.{eqb-true, eqb-false, eq-eqb}
-use lib.Pow.{shl-exact, pow-pos, pow-mono, shr-shr, shr-lt}
+use lib.Bits.{bitAnd, bitOr, or-shr, or-mod, and-shr, and-mod, shifted-half, shifted-even}
+use lib.Pow.{shl-exact, pow-mono, shr-shr, shr-lt}
 use lib.Count.{trailingZeros, under}
 use Rattle.graph.specs.Words.{bit}
 

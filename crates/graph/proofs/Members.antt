@@ -6,13 +6,12 @@ use Prim.Native.Nat.{ℕ, zero, suc, _+_, _^_, _-_, _*_, _%_, _≤_, _<_}
 use native.Mathlib.Omega.{arith}
 use native.Mathlib.Decide.{ℕ-discrete, decLt}
 use lib.ListN.{length}
-use lib.Dec.{eqb, lit<}
+use lib.Dec.{eqb}
 use lib.Bits.{bitAnd}
 use lib.Count.{trailingZeros}
 use borrow.Author.Tests.{eq-eqb, ne-eqb}
-use Rattle.graph.specs.Words.{pick, bit, rowFrom, row, alsoIf, those, thoseBelow, members, lowest, isIn, isNone}
+use Rattle.graph.specs.Words.{bit, rowFrom, row, alsoIf, those, thoseBelow, members, lowest, isIn, isNone}
 use Rattle.graph.proofs.Facts.{clash, length-row, below-pass, below-all, lowest-is, lowest-none, off-when}
-use Rattle.graph.proofs.Lists.{none-in}
 use Rattle.graph.proofs.Bits as B
 
 -- ---- those that pass a test
@@ -137,6 +136,17 @@ those-short p (x ∷ l) = go (p x) (those-short p l)
     go true h = omega arith
     go false h = omega arith
 
+-- those that pass and those that do not are all
+pub those-split : (p : ℕ → Bool) (l : List ℕ) → length (those p l) + length (those (λ k. not (p k)) l) ≡ length l
+unfolding those alsoIf
+those-split p [] = refl
+those-split p (x ∷ l) = go (p x) (those-split p l)
+  where
+    go : (b : Bool) → length (those p l) + length (those (λ k. not (p k)) l) ≡ length l
+        → length (alsoIf b x (those p l)) + length (alsoIf (not b) x (those (λ k. not (p k)) l)) ≡ length (x ∷ l)
+    go true h = omega arith
+    go false h = omega arith
+
 pub members-short : (x : ℕ) → length (members x) ≤ 16
 unfolding members thoseBelow
 members-short x = omega (arith, those-short (bit x) (row 16 (λ i. i)), length-row 16 (λ (i : ℕ). i))
@@ -149,3 +159,25 @@ in-members x k b = go (bit x k) refl
     go : (d : Bool) → bit x k ≡ d → isIn k (thoseBelow 16 (bit x)) ≡ d
     go true e = below-all 16 (bit x) k b e
     go false e = off-when _ (λ i. clash (below-pass 16 (bit x) k i .1) e)
+
+-- a number of sixteen bits holds numbers below 16
+pub held-below : (x k : ℕ) → x < 2 ^ 16 → bit x k ≡ true → k < 16
+held-below x k h e = elim (decLt k 16) [ yes l ↦ l | no l ↦ absurd (clash e (B.bit-past x 16 k h (omega arith))) ]
+
+pub held-in : (x k : ℕ) → x < 2 ^ 16 → bit x k ≡ true → isIn k (members x) ≡ true
+held-in x k h e = in-members x k (held-below x k h e) ∙ e
+
+pub in-held : (x k : ℕ) → isIn k (members x) ≡ true → (k < 16) × (bit x k ≡ true)
+unfolding members
+in-held x k i = below-pass 16 (bit x) k i
+
+-- ---- a set without another, as the code `x & !y` says it
+module _ (x y : ℕ) (small : y < 2 ^ 16) where
+  pub bit-without : (k : ℕ) → k < 16 → bit (bitAnd x (65535 - y)) k ≡ (bit x k && not (bit y k))
+  bit-without k h = B.bit-and x (65535 - y) k ∙ ap (λ (b : Bool). bit x k && b) (B.bit-not 16 y k small h)
+
+  pub members-without : members (bitAnd x (65535 - y)) ≡ those (λ k. not (bit y k)) (members x)
+  unfolding members thoseBelow
+  members-without =
+      below-same 16 (bit (bitAnd x (65535 - y))) (λ k. bit x k && not (bit y k)) bit-without
+      ∙ sym (those-those (λ k. not (bit y k)) (bit x) (row 16 (λ i. i)))

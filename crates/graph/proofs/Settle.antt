@@ -3,12 +3,12 @@ use mathlib.Core.Path.{_≡_, refl, sym, ap, _∙_}
 use mathlib.Core.Logic.{⊎-elim}
 use mathlib.Core.Bool.{Bool, true, false, _||_, or-false}
 use mathlib.Core.List.{List, [], _∷_}
-use Prim.Native.Nat.{ℕ, zero, suc, _+_, _^_, _≤_, _<_}
+use Prim.Native.Nat.{ℕ, zero, suc, _^_, _≤_, _<_}
 use native.Mathlib.Omega.{arith}
 use lib.ListN.{length, getD}
 use lib.Dec.{eqb}
 use lib.Bits.{bitAnd, bitOr}
-use Rattle.graph.specs.Words.{pick, bit, row, those, members, lowest, anyOf, isNone}
+use Rattle.graph.specs.Words.{pick, bit, those, members, lowest, anyOf, isNone}
 use Rattle.graph.specs.Graph.{edge, ledTo, sweep, sweeps, acyclicAmong, acyclic}
 use Rattle.graph.proofs.Bits.{bit-zero, bit-or}
 use Rattle.graph.proofs.Members.{those-same, members-and, members-full, members-zero, members-none, members-short}

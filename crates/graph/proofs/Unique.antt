@@ -6,6 +6,8 @@ use denote.Triple.Clauses.{AtExit}
 use borrow.Fn.Kinds.{PK, RK, Out, Dens, resT, endedOf}
 use Rattle.graph.proofs.is_acyclic.Kinds as is-acyclic-kinds
 use Rattle.graph.proofs.is_acyclic.Reads as is-acyclic-reads
+use Rattle.graph.proofs.longest.Kinds as longest-kinds
+use Rattle.graph.proofs.longest.Reads as longest-reads
 
 -- two results that are each what a definition gives are equal
 pub by-definition {ℓ} : {X : Type ℓ} {defined r s : X} → r ≡ defined → s ≡ defined → r ≡ s
@@ -18,3 +20,6 @@ OneResult ps r Allowed =
 
 pub is-acyclic-one : OneResult is-acyclic-kinds.ps is-acyclic-kinds.r is-acyclic-reads.Post
 is-acyclic-one κs args x y s t = by-definition
+
+pub longest-one : OneResult longest-kinds.ps longest-kinds.r longest-reads.Post
+longest-one κs args x y s t = by-definition

@@ -13,7 +13,7 @@ use crate::Table;
 use crate::Task;
 use crate::Written;
 use crate::checking;
-use crate::unused;
+use crate::entries;
 
 // Four bytes at a place, the lowest first.
 fn put4(buffer: &mut [u8], at: usize, x: u32)
@@ -126,7 +126,7 @@ pub fn write(table: Table, buffer: &mut [u8]) -> Written
     let Outcome::Read = o else {
         return Written::Refused(o);
     };
-    if !unused::unused_zero(table) {
+    if !entries::unused_zero(table) {
         return Written::Unused;
     }
     let l = c.next;

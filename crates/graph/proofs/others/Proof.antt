@@ -1,5 +1,5 @@
 use mathlib.Core.Path.{ap, sym, _∙_}
-use mathlib.Core.List.{List, _∷_}
+use mathlib.Core.List.{_∷_}
 use Prim.Native.Nat.{ℕ, _<_, _^_, _-_, _*_, _%_}
 use borrow.Author.Needs.{needs}
 use lib.Bits.{bitAnd}

@@ -21,7 +21,7 @@ use Rattle.table.proofs.writing.write.Tie as tie
 use Rattle.table.proofs.writing.write.Reads as reads
 use Rattle.table.proofs.writing.write.Lts as lts
 use Rattle.table.proofs.checking.check.Reads as check-reads
-use Rattle.table.proofs.unused.unused_zero.Reads as unused-zero-reads
+use Rattle.table.proofs.entries.unused_zero.Reads as unused-zero-reads
 use Rattle.table.proofs.writing.put_head.Reads as put-head-reads
 use Rattle.table.proofs.writing.put_tasks.Reads as put-tasks-reads
 

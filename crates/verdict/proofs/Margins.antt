@@ -1,0 +1,135 @@
+-- "The margin is a signed number, from minus 240,000,120,000,000 up to at most 8,000,000": proved for every good table, so for
+-- every file that is read. No number 21: where no margin is negative, no len exceeds its D.
+use mathlib.Core.Path.{_≡_, refl, sym, ap, _∙_}
+use mathlib.Core.Bool.{Bool, true, false, cond}
+use mathlib.Core.List.{List}
+use Prim.Native.Nat.{ℕ, zero, suc, _+_, _*_, _-_, _≤_, _<_}
+use native.Mathlib.Omega.{arith}
+use native.Mathlib.Nat.{mul-suc, mul-add, mul-comm, mul-le-mul, mul-le-mul-left, mul-le-mul-right}
+use native.Mathlib.Decide.{decLe}
+use lib.Dec.{T, ltb, leb, le→leb}
+use lib.IntN.{ℤ, pos, negsuc, negℤ, _+ℤ_, _-ℤ_, -ℤ-+ℤ-cancel}
+use lib.Signed.{ltZ, leZ, _≤ℤ_, _<ℤ_}
+use borrow.Author.Tests.{ltb-true, ltb-false, lt-ltb, le-ltb}
+use Rattle.table.specs.declared.Table.{Table}
+use Rattle.table.specs.declared.Outcome.the-variants.{Read}
+use Rattle.table.specs.Memory.{D}
+use Rattle.table.specs.Reading.{read}
+use Rattle.table.specs.Good.{GoodTask, GoodTable}
+use Rattle.table.proofs.Sound.{read-good}
+use Rattle.verdict.specs.Verdicts.{vol, len, due, margin}
+use Rattle.verdict.proofs.Amounts.{vol-high, len-vol, len-low, vol-due, due-high, allowance-high, chain-high}
+
+-- ---- a difference of two numbers, and its order
+pub minus-low : (a b l : ℕ) → b ≤ a + suc l → negsuc l ≤ℤ (pos a -ℤ pos b)
+minus-low a zero l h = record { le = tt }
+minus-low a (suc b) l h = record { le = go (ltb a (suc b)) refl }
+  where
+    go : (c : Bool) → ltb a (suc b) ≡ c → T (leZ (negsuc l) (cond c (negsuc (suc b - suc a)) (pos (a - suc b))))
+    go true e = le→leb (suc b - suc a) l (omega arith)
+    go false e = tt
+
+pub minus-high : (a b h : ℕ) → a ≤ b + h → (pos a -ℤ pos b) ≤ℤ pos h
+minus-high a zero h k = record { le = le→leb (a + 0) h (omega arith) }
+minus-high a (suc b) h k = record { le = go (ltb a (suc b)) refl }
+  where
+    go : (c : Bool) → ltb a (suc b) ≡ c → T (leZ (cond c (negsuc (suc b - suc a)) (pos (a - suc b))) (pos h))
+    go true e = tt
+    go false e = le→leb (a - suc b) h (omega arith)
+
+-- a difference that is not negative
+pub not-negative : (a b : ℕ) → pos 0 ≤ℤ (pos a -ℤ pos b) → b ≤ a
+not-negative a zero h = omega arith
+not-negative a (suc b) h = go (ltb a (suc b)) refl (h .le)
+  where
+    go : (c : Bool) → ltb a (suc b) ≡ c → T (leZ (pos 0) (cond c (negsuc (suc b - suc a)) (pos (a - suc b)))) → suc b ≤ a
+    go true e h = absurd h
+    go false e h = ltb-false a (suc b) e
+
+-- ---- THE MARGIN with what it was lessened by is m times D
+pub margin-is : (t : Table) (k : ℕ) → margin t k +ℤ pos ((t .m - 1) * len t k + due t k) ≡ pos (t .m * D t k)
+unfolding margin
+margin-is t k = -ℤ-+ℤ-cancel (pos (t .m * D t k)) (pos ((t .m - 1) * len t k + due t k))
+
+-- ---- the same bounds in natural numbers
+module _ (t : Table) (good : GoodTable t) (k : ℕ) (b : k < t .n) where
+  -- m · 16,000,000 + 8 · D ≤ m · D + 8 · 16,000,000, since m ≤ 8 and D ≤ 16,000,000
+  crossed : t .m * 16000000 + 8 * D t k ≤ t .m * D t k + 128000000
+  crossed =
+      let d = good .each k b .D-high in
+      let f : ℕ = 16000000 - D t k in
+      let e : D t k + f ≡ 16000000 = omega arith in
+      omega (arith, sym (ap (λ (x : ℕ). t .m * x) e) ∙ mul-add (t .m) (D t k) f, mul-le-mul-right f (good .m-high))
+
+  pub spent-most : (t .m - 1) * len t k + due t k ≤ t .m * D t k + 240000120000000
+  spent-most =
+      let l : len t k ≤ 16000000 = omega (arith, len-vol t good k b, vol-high t good k b) in
+      let m = good .m-low in
+      omega (arith, mul-le-mul-left (t .m - 1) l, due-high t good k b, vol-high t good k b, crossed, good .each k b .D-high)
+
+  pub spent-least : t .m * D t k ≤ (t .m - 1) * len t k + due t k + 7999992
+  spent-least =
+      let d = good .each k b .D-low in
+      let e : D t k ≡ suc (D t k - 1) = omega arith in
+      let m = good .m-low in
+      let w : D t k - 1 ≤ 999999 = omega (arith, good .each k b .D-high) in
+      let z : t .m * (D t k - 1) ≤ 8 * 999999 = mul-le-mul (good .m-high) w in
+      omega (
+        arith,
+        ap (λ (x : ℕ). t .m * x) e ∙ mul-suc (t .m) (D t k - 1),
+        mul-le-mul-left (t .m - 1) (len-low t good k b),
+        len-low t good k b,
+        len-vol t good k b,
+        vol-due t good k b,
+      )
+
+  -- m · len ≤ (m - 1) · len + due, since len ≤ vol ≤ due
+  pub chain-spent : t .m * len t k ≤ (t .m - 1) * len t k + due t k
+  chain-spent =
+      let m = good .m-low in
+      let e : t .m ≡ suc (t .m - 1) = omega arith in
+      omega (
+        arith,
+        mul-comm (t .m) (len t k),
+        ap (λ (x : ℕ). len t k * x) e ∙ mul-suc (len t k) (t .m - 1),
+        mul-comm (len t k) (t .m - 1),
+        len-vol t good k b,
+        vol-due t good k b,
+      )
+
+  -- so where what is spent is within m · D, no chain is longer than D
+  pub chain-fits : (t .m - 1) * len t k + due t k ≤ t .m * D t k → len t k ≤ D t k
+  chain-fits h = elim (decLe (len t k) (D t k)) [
+    | yes l ↦ l
+    | no l ↦
+        let w : suc (D t k) ≤ len t k = omega arith in
+        let m = good .m-low in
+        absurd (omega (arith, chain-spent, mul-le-mul-left (t .m) w, mul-suc (t .m) (D t k)))
+  ]
+
+-- ---- THE MARGIN'S RANGE, both ends
+unfoldable pub lowEnd : ℤ
+lowEnd = negℤ (pos 240000120000000)
+
+unfoldable pub highEnd : ℤ
+highEnd = pos 8000000
+
+pub record InRange (z : ℤ) : Type 0 where
+  pub low : lowEnd ≤ℤ z
+  pub high : z ≤ℤ highEnd
+
+pub margin-range : (t : Table) → GoodTable t → (k : ℕ) → k < t .n → InRange (margin t k)
+unfolding margin lowEnd highEnd
+margin-range t good k b = record {
+  low = minus-low (t .m * D t k) ((t .m - 1) * len t k + due t k) 240000119999999 (omega (arith, spent-most t good k b));
+  high = minus-high (t .m * D t k) ((t .m - 1) * len t k + due t k) 8000000 (omega (arith, spent-least t good k b));
+}
+
+-- in truth it is at most 7,999,992, since each cost is at least 1
+pub margin-high : (t : Table) → GoodTable t → (k : ℕ) → k < t .n → margin t k ≤ℤ pos 7999992
+unfolding margin
+margin-high t good k b = minus-high (t .m * D t k) ((t .m - 1) * len t k + due t k) 7999992 (spent-least t good k b)
+
+-- so for every file that is read
+pub file-range : (s : List ℕ) → read s .outcome ≡ Read → (k : ℕ) → k < read s .table .n → InRange (margin (read s .table) k)
+file-range s e k b = margin-range (read s .table) (read-good s e) k b

@@ -1,0 +1,197 @@
+-- WHAT THE VERDICT'S NUMBERS SAY of a file: reading's numbers 1 to 8, 20 and 0, each with its task and margin; nothing else, and no 21.
+use mathlib.Core.Path.{_≡_, refl, sym, ap, subst, _∙_}
+use mathlib.Core.Logic.{_⊎_, inl, inr, ⊎-elim}
+use mathlib.Core.Bool.{Bool, true, false}
+use mathlib.Core.List.{List}
+use Prim.Native.Nat.{ℕ, zero, suc, _+_, _*_, _-_, _≤_, _<_}
+use native.Mathlib.Omega.{arith}
+use lib.Dec.{ltb}
+use lib.IntN.{ℤ, pos, _-ℤ_}
+use lib.Signed.{ltZ, leZ, _≤ℤ_, _<ℤ_}
+use borrow.Author.Tests.{le-ltb}
+use Rattle.graph.specs.Words.{all, lowest, lowestOr}
+use Rattle.graph.proofs.Facts.{clash, all-of, all-at, all-not, lowest-is, lowestOr-none}
+use Rattle.table.specs.declared.Table.{Table}
+use Rattle.table.specs.declared.Outcome.{Outcome}
+use Rattle.table.specs.declared.Outcome.the-variants.{Read, Short, Mark, Range, Ticks, Order, Edge, Cycle, Extra}
+use Rattle.table.specs.Memory.{D}
+use Rattle.table.specs.Numbers.{number, place}
+use Rattle.table.specs.Reading.{whenRead, read}
+use Rattle.table.specs.Good.{GoodTable}
+use Rattle.table.proofs.Sound.{read-good}
+use Rattle.verdict.specs.declared.Verdict.{Verdict}
+use Rattle.verdict.specs.Verdicts.{len, due, margin, naming, verdictOn, unread, verdictRead, verdict}
+use Rattle.verdict.proofs.Margins.{not-negative, chain-fits}
+use Rattle.verdict.proofs.Orders.{le-yes, lt-yes, not-lt, le-trans, smallest, Lowest, search-low, lowestOr-is}
+
+-- "a file that reading refuses gets that number and place, task 255 and margin 0"
+pub record Unreadable (o : Outcome) (v : Verdict) : Type 0 where
+  pub low : 1 ≤ v .number
+  pub high : v .number ≤ 8
+  pub its-number : v .number ≡ number o
+  pub its-place : v .place ≡ place o
+  pub no-task : v .task ≡ 255
+  pub no-margin : v .margin ≡ pos 0
+
+-- 20: the lowest task with a negative margin, and its margin
+pub record Refuses (t : Table) (v : Verdict) : Type 0 where
+  pub place : v .place ≡ 0
+  pub below : v .task < t .n
+  pub its-margin : v .margin ≡ margin t (v .task)
+  pub negative : v .margin <ℤ pos 0
+  pub none-lower : (j : ℕ) → j < v .task → pos 0 ≤ℤ margin t j
+
+-- 0: no margin is negative; the smallest margin, and the lowest task that has it
+pub record Accepts (t : Table) (v : Verdict) : Type 0 where
+  pub place : v .place ≡ 0
+  pub below : v .task < t .n
+  pub its-margin : v .margin ≡ margin t (v .task)
+  pub passes : (k : ℕ) → k < t .n → pos 0 ≤ℤ margin t k
+  pub smallest : (i : ℕ) → i < t .n → v .margin ≤ℤ margin t i
+  pub none-lower : (j : ℕ) → j < v .task → v .margin <ℤ margin t j
+
+module _ (t : Table) (good : GoodTable t) where
+  negative : ℕ → Bool
+  negative k = ltZ (margin t k) (pos 0)
+
+  longer : ℕ → Bool
+  longer k = ltb (D t k) (len t k)
+
+  least : ℕ → Bool
+  least k = all (t .n) (λ i. leZ (margin t k) (margin t i))
+
+  passing : (k : ℕ) → negative k ≡ false → pos 0 ≤ℤ margin t k
+  unfolding negative
+  passing k h = le-yes (pos 0) (margin t k) (not-lt (margin t k) (pos 0) h)
+
+  -- ---- 20
+  some-negative : (y : ℕ) → Lowest (t .n) negative y → verdictOn t ≡ naming 20 t y
+  unfolding verdictOn negative
+  some-negative y h = lowestOr-is (t .n) negative (naming 20 t) _ y h
+
+  refuses : (y : ℕ) → Lowest (t .n) negative y → Refuses t (naming 20 t y)
+  unfolding naming negative
+  refuses y h = record {
+    place = refl;
+    below = h .0;
+    its-margin = refl;
+    negative = lt-yes (margin t y) (pos 0) (h .1);
+    none-lower = λ j b. passing j (h .2 j b);
+  }
+
+  -- ---- no 21
+  none-longer : ((k : ℕ) → k < t .n → negative k ≡ false) → (y : ℕ) → y < t .n → longer y ≡ false
+  unfolding margin longer
+  none-longer h y b =
+      let f = chain-fits t good y b (not-negative (t .m * D t y) ((t .m - 1) * len t y + due t y) (passing y (h y b))) in
+      le-ltb (D t y) (len t y) f
+
+  -- ---- 0
+  some-least : (y : ℕ) × Lowest (t .n) least y
+  unfolding least
+  some-least = ⊎-elim (λ r. r) (λ h. absurd (none h)) (search-low (t .n) least)
+    where
+      none : ((j : ℕ) → j < t .n → least j ≡ false) → ⊥
+      none h =
+          let l = good .n-low in
+          let e : suc (t .n - 1) ≡ t .n = omega arith in
+          let r = smallest (t .n - 1) (margin t) in
+          clash (all-of (t .n) (λ i. leZ (margin t (r .0)) (margin t i)) (λ i b. r .2 i (omega arith))) (h (r .0) (omega (arith, r .1)))
+
+  none-negative : ((k : ℕ) → k < t .n → negative k ≡ false) → (y : ℕ) → Lowest (t .n) least y → verdictOn t ≡ naming 0 t y
+  unfolding verdictOn negative longer least
+  none-negative h y l =
+      lowestOr-none (t .n) negative (naming 20 t) _ h
+      ∙ lowestOr-none (t .n) longer (naming 21 t) _ (none-longer h)
+      ∙ ap (naming 0 t) (lowest-is 255 (t .n) least y (l .0) (l .1) (l .2))
+
+  accepts : ((k : ℕ) → k < t .n → negative k ≡ false) → (y : ℕ) → Lowest (t .n) least y → Accepts t (naming 0 t y)
+  unfolding naming least
+  accepts h y l = record {
+    place = refl;
+    below = l .0;
+    its-margin = refl;
+    passes = λ k b. passing k (h k b);
+    smallest = λ i b. le-yes (margin t y) (margin t i) (within i b);
+    none-lower = λ j b. lt-yes (margin t y) (margin t j) (lower j b);
+  }
+    where
+      within : (i : ℕ) → i < t .n → leZ (margin t y) (margin t i) ≡ true
+      within i b = all-at (t .n) (λ i. leZ (margin t y) (margin t i)) (l .1) i b
+
+      lower : (j : ℕ) → j < y → ltZ (margin t y) (margin t j) ≡ true
+      lower j b =
+          let r = all-not (t .n) (λ i. leZ (margin t j) (margin t i)) (l .2 j b) in
+          go (r .0) (r .1) (r .2) (ltZ (margin t y) (margin t j)) refl
+        where
+          go : (i : ℕ) → i < t .n → leZ (margin t j) (margin t i) ≡ false → (c : Bool) → ltZ (margin t y) (margin t j) ≡ c → c ≡ true
+          go i b n true e = refl
+          go i b n false e = absurd (clash (le-trans (margin t j) (margin t y) (margin t i) (not-lt (margin t y) (margin t j) e) (within i b)) n)
+
+  -- a good table gets 20 or 0
+  pub table-says : ((verdictOn t .number ≡ 20) × Refuses t (verdictOn t)) ⊎ ((verdictOn t .number ≡ 0) × Accepts t (verdictOn t))
+  unfolding naming
+  table-says = ⊎-elim
+      (λ r. let e = some-negative (r .0) (r .1) in
+      inl (ap (λ (v : Verdict). v .number) e, subst (λ (v : Verdict). Refuses t v) (sym e) (refuses (r .0) (r .1))))
+      (λ h. let e = none-negative h (some-least .0) (some-least .1) in
+      inr (ap (λ (v : Verdict). v .number) e, subst (λ (v : Verdict). Accepts t v) (sym e) (accepts h (some-least .0) (some-least .1))))
+      (search-low (t .n) negative)
+
+-- ---- every file
+pub data Says (s : List ℕ) (v : Verdict) : Type 0 where
+  unreadable : Unreadable (read s .outcome) v → Says s v
+  refused : read s .outcome ≡ Read → v .number ≡ 20 → Refuses (read s .table) v → Says s v
+  accepted : read s .outcome ≡ Read → v .number ≡ 0 → Accepts (read s .table) v → Says s v
+
+by-outcome : (o : Outcome) (go : Unit {0} → Verdict)
+    → ((o ≡ Read) × (whenRead o unread go ≡ go tt)) ⊎ ((1 ≤ number o) × (number o ≤ 8) × (whenRead o unread go ≡ unread o))
+unfolding number
+by-outcome Read go = inl (refl, refl)
+by-outcome (Short p) go = inr (omega arith, omega arith, refl)
+by-outcome (Mark p) go = inr (omega arith, omega arith, refl)
+by-outcome (Range p) go = inr (omega arith, omega arith, refl)
+by-outcome (Ticks p) go = inr (omega arith, omega arith, refl)
+by-outcome (Order p) go = inr (omega arith, omega arith, refl)
+by-outcome (Edge p) go = inr (omega arith, omega arith, refl)
+by-outcome (Cycle p) go = inr (omega arith, omega arith, refl)
+by-outcome (Extra p) go = inr (omega arith, omega arith, refl)
+
+pub verdict-says : (s : List ℕ) → Says s (verdict s)
+unfolding verdict verdictRead unread
+verdict-says s = ⊎-elim
+    (λ r. subst (Says s) (sym (r .1)) (judged (r .0) (table-says (read s .table) (read-good s (r .0)))))
+    (λ r. subst (Says s) (sym (r .2)) (unreadable (record { low = r .0; high = r .1; its-number = refl; its-place = refl; no-task = refl; no-margin = refl })))
+    (by-outcome (read s .outcome) (λ _. verdictOn (read s .table)))
+  where
+    judged : read s .outcome ≡ Read
+        → ((verdictOn (read s .table) .number ≡ 20) × Refuses (read s .table) (verdictOn (read s .table)))
+        ⊎ ((verdictOn (read s .table) .number ≡ 0) × Accepts (read s .table) (verdictOn (read s .table)))
+        → Says s (verdictOn (read s .table))
+    judged e = ⊎-elim (λ q. refused e (q .0) (q .1)) (λ q. accepted e (q .0) (q .1))
+
+-- NO TABLE YIELDS 21
+pub never-21 : (s : List ℕ) → verdict s .number ≡ 21 → ⊥
+never-21 s h = go (verdict s) (verdict-says s) h
+  where
+    go : (v : Verdict) → Says s v → v .number ≡ 21 → ⊥
+    go v (unreadable u) h = omega arith
+    go v (refused e n r) h = omega arith
+    go v (accepted e n r) h = omega arith
+
+-- what 20 says, and what 0 says
+pub says-20 : (s : List ℕ) → verdict s .number ≡ 20 → (read s .outcome ≡ Read) × Refuses (read s .table) (verdict s)
+says-20 s h = go (verdict s) (verdict-says s) h
+  where
+    go : (v : Verdict) → Says s v → v .number ≡ 20 → (read s .outcome ≡ Read) × Refuses (read s .table) v
+    go v (unreadable u) h = absurd (omega arith)
+    go v (refused e n r) h = (e, r)
+    go v (accepted e n r) h = absurd (omega arith)
+
+pub says-0 : (s : List ℕ) → verdict s .number ≡ 0 → (read s .outcome ≡ Read) × Accepts (read s .table) (verdict s)
+says-0 s h = go (verdict s) (verdict-says s) h
+  where
+    go : (v : Verdict) → Says s v → v .number ≡ 0 → (read s .outcome ≡ Read) × Accepts (read s .table) v
+    go v (unreadable u) h = absurd (omega arith)
+    go v (refused e n r) h = absurd (omega arith)
+    go v (accepted e n r) h = (e, r)

@@ -1,0 +1,82 @@
+//! Writes recorded vectors, or checks recorded ones against this program.
+
+use second::vectors::*;
+use std::process::ExitCode;
+
+const USAGE: &str = "vectors read FILE_IN FILE_OUT    write cases and answers for the reader
+vectors write FILE_IN FILE_OUT   write cases and answers for the writer
+vectors check-read FILE_IN FILE_OUT, vectors check-write FILE_IN FILE_OUT
+                                 answer the cases anew and compare";
+
+const SEED: u64 = 1;
+
+fn main() -> ExitCode {
+    let words: Vec<String> = std::env::args().skip(1).collect();
+    let words: Vec<&str> = words.iter().map(String::as_str).collect();
+    let done = match words[..] {
+        ["read", cases, answers] => {
+            record(read_stream(&read_cases(SEED)), answer_reads, cases, answers)
+        }
+        ["write", cases, answers] => record(
+            write_stream(&write_cases(SEED)),
+            answer_writes,
+            cases,
+            answers,
+        ),
+        ["check-read", cases, answers] => check(answer_reads, cases, answers),
+        ["check-write", cases, answers] => check(answer_writes, cases, answers),
+        _ => Err(String::from(USAGE)),
+    };
+    match done {
+        Ok(said) => {
+            println!("{said}");
+            ExitCode::SUCCESS
+        }
+        Err(said) => {
+            eprintln!("{said}");
+            ExitCode::FAILURE
+        }
+    }
+}
+
+type Answers = fn(&[u8]) -> Option<Vec<Expected>>;
+
+fn record(stream: Vec<u8>, answer: Answers, cases: &str, answers: &str) -> Result<String, String> {
+    let found = answer(&stream).ok_or("the cases are malformed")?;
+    std::fs::write(cases, &stream).map_err(|e| format!("{cases}: {e}"))?;
+    std::fs::write(answers, text(&found)).map_err(|e| format!("{answers}: {e}"))?;
+    Ok(summary(&stream, &found))
+}
+
+fn check(answer: Answers, cases: &str, answers: &str) -> Result<String, String> {
+    let stream = std::fs::read(cases).map_err(|e| format!("{cases}: {e}"))?;
+    let expected = std::fs::read_to_string(answers).map_err(|e| format!("{answers}: {e}"))?;
+    let found = answer(&stream).ok_or("the cases are malformed")?;
+    let got = text(&found);
+    if let Some(line) = got.lines().zip(expected.lines()).position(|(a, b)| a != b) {
+        return Err(format!("case {line} differs"));
+    }
+    if got != expected {
+        return Err(String::from("the number of cases differs"));
+    }
+    Ok(format!("equal: {}", summary(&stream, &found)))
+}
+
+fn summary(stream: &[u8], found: &[Expected]) -> String {
+    let mut said = format!(
+        "{} cases, {} bytes; number:count/places",
+        found.len(),
+        stream.len()
+    );
+    for number in 0..=10 {
+        let with = found.iter().filter(|answer| answer.number == number);
+        let mut places: Vec<usize> = with.map(|answer| answer.place).collect();
+        let count = places.len();
+        places.sort_unstable();
+        places.dedup();
+        if count > 0 {
+            said += &format!(" {number}:{count}/{}", places.len());
+        }
+    }
+    said
+}

@@ -1,0 +1,23 @@
+//! A second program for job tables: reader, writer, verdict, report and tick
+//! machine, written from document 01 alone, to be compared with the first.
+
+pub mod examples;
+pub mod explore;
+pub mod graph;
+pub mod legal;
+pub mod machine;
+pub mod random;
+pub mod reader;
+pub mod report;
+pub mod sum;
+pub mod table;
+pub mod vectors;
+pub mod verdict;
+pub mod writer;
+
+pub use machine::{open, tick, tick_in_place, Opened, State, Ticked};
+pub use reader::{read, read_at, Core, Read};
+pub use report::report;
+pub use table::{Table, Task};
+pub use verdict::{verdict, Verdict};
+pub use writer::write;

@@ -1,0 +1,206 @@
+//! Random tables: valid ones of every size, those near the verdict's edge,
+//! tiny ones, and tables with any number in any field.
+
+use super::Random;
+use crate::graph::first;
+use crate::table::*;
+use crate::verdict::judge;
+
+/// Edges without a cycle on v vertices; `density` of 16 pairs are taken.
+pub fn random_edges(r: &mut Random, v: usize, density: usize) -> [u16; ENTRIES] {
+    let mut order: [usize; ENTRIES] = std::array::from_fn(|h| h);
+    for h in (1..v).rev() {
+        let other = r.below(h + 1);
+        order.swap(h, other);
+    }
+    let mut succ = [0; ENTRIES];
+    for a in 0..v {
+        for b in a + 1..v {
+            if r.below(16) < density {
+                succ[order[a]] |= 1 << order[b];
+            }
+        }
+    }
+    succ
+}
+
+fn any_density(r: &mut Random) -> usize {
+    r.pick(&[0, 0, 1, 3, 8, 15, 16])
+}
+
+/// A number of ticks within its range, small, middling, large or at an end.
+pub fn ticks(r: &mut Random) -> u32 {
+    match r.below(5) {
+        0 => r.range(1, 9),
+        1 => r.range(1, 1_000),
+        2 => r.range(1, MOST_TICKS),
+        3 => r.pick(&[1, 2, 255, 256, 65_535, 65_536, 999_999, MOST_TICKS]),
+        _ => r.range(1, 60),
+    }
+}
+
+fn task(r: &mut Random, table: &mut Table, i: usize, v: usize) {
+    let one = ticks(r);
+    let other = if r.one_in(3) { one } else { ticks(r) };
+    let density = any_density(r);
+    table.tasks[i] = Task {
+        v: v as u8,
+        deadline: one.min(other),
+        period: one.max(other),
+        succ: random_edges(r, v, density),
+    };
+    for h in 0..v {
+        table.costs[ENTRIES * i + h] = ticks(r);
+    }
+}
+
+/// A valid table with n tasks of at most `most` vertices each.
+pub fn table_sized(r: &mut Random, n: usize, most: usize) -> Table {
+    let mut table = Table {
+        m: r.range(1, 8) as u8,
+        n: n as u8,
+        ..Table::ZERO
+    };
+    for i in 0..n {
+        let v = r.below(most) + 1;
+        task(r, &mut table, i, v);
+    }
+    table
+}
+
+/// A valid table of any size.
+pub fn table(r: &mut Random) -> Table {
+    let n = r.below(16) + 1;
+    let most = r.below(16) + 1;
+    table_sized(r, n, most)
+}
+
+/// A valid table of the largest file: sixteen tasks with 120 edges each.
+pub fn largest_table(r: &mut Random) -> Table {
+    let mut table = table_sized(r, 16, 1);
+    for i in 0..ENTRIES {
+        table.tasks[i].v = 16;
+        table.tasks[i].succ = random_edges(r, 16, 16);
+        for h in 0..ENTRIES {
+            table.costs[ENTRIES * i + h] = ticks(r);
+        }
+    }
+    table
+}
+
+/// A valid table near the verdict's edge: about half are accepted, and many
+/// named margins are near 0. D and T lie about `scale`.
+pub fn near_edge(r: &mut Random, n: usize, most: usize, scale: u32) -> Table {
+    let mut table = table_sized(r, n, most);
+    table.costs = table.costs.map(|cost| cost.min(1));
+    let mut scale = scale;
+    loop {
+        for task in &mut table.tasks[..n] {
+            task.deadline = r.range(scale.div_ceil(2), scale);
+            let upto = MOST_TICKS.min(task.deadline.saturating_mul(2));
+            let loose = r.range(task.deadline, upto);
+            task.period = if r.coin() { task.deadline } else { loose };
+        }
+        if judge(&table).number == 0 || scale == MOST_TICKS {
+            break;
+        }
+        scale = MOST_TICKS.min(scale * 2);
+    }
+    for _ in 0..n + 4 {
+        let i = r.below(n);
+        let at = ENTRIES * i + r.below(usize::from(table.tasks[i].v));
+        let room = room(&mut table, at);
+        table.costs[at] += if r.one_in(3) { room } else { r.range(0, room) };
+    }
+    let i = r.below(n);
+    let at = ENTRIES * i + r.below(usize::from(table.tasks[i].v));
+    let over = u32::from(r.coin()) * r.range(1, 2);
+    let filled = table.costs[at] + room(&mut table, at) + over;
+    table.costs[at] = filled.min(MOST_TICKS);
+    table
+}
+
+/// By how much this cost can grow so that the table stays accepted.
+fn room(table: &mut Table, at: usize) -> u32 {
+    let was = table.costs[at];
+    let (mut good, mut bad) = (0, MOST_TICKS - was + 1);
+    while bad - good > 1 {
+        let middle = good + (bad - good) / 2;
+        table.costs[at] = was + middle;
+        if judge(table).number == 0 {
+            good = middle;
+        } else {
+            bad = middle;
+        }
+    }
+    table.costs[at] = was;
+    good
+}
+
+/// A tiny valid table: m, n and v at most 3, numbers at most 6. A roomy one
+/// has costs of 1 and leans to more tasks, vertices and ticks.
+pub fn tiny_table(r: &mut Random, roomy: bool) -> Table {
+    let low = if roomy { 2 } else { 1 };
+    let mut table = Table {
+        m: r.range(low, 3) as u8,
+        n: r.range(low, 3) as u8,
+        ..Table::ZERO
+    };
+    let dear = if roomy { 1 } else { r.range(1, 6) };
+    for i in 0..usize::from(table.n) {
+        let v = r.range(low, 3) as usize;
+        let period = r.range(if roomy { 4 } else { 1 }, 6);
+        let least = if roomy { period - 2 } else { 1 };
+        let density = r.pick(&[0, 6, 10, 16]);
+        table.tasks[i] = Task {
+            v: v as u8,
+            deadline: r.range(least, period),
+            period,
+            succ: random_edges(r, v, density),
+        };
+        for h in 0..v {
+            table.costs[ENTRIES * i + h] = r.range(1, dear);
+        }
+    }
+    table
+}
+
+/// A valid table with `changes` fields set to any number, used or not.
+pub fn damaged_table(r: &mut Random, base: &Table, changes: usize) -> Table {
+    let mut table = *base;
+    for _ in 0..changes {
+        let n = usize::from(table.n).clamp(1, ENTRIES);
+        let i = r.below_either(n, ENTRIES);
+        let v = usize::from(table.tasks[i].v).clamp(1, ENTRIES);
+        let h = r.below_either(v, ENTRIES);
+        let task = &mut table.tasks[i];
+        match r.below(12) {
+            0 => table.m = r.number() as u8,
+            1 => table.n = r.number() as u8,
+            2 => task.v = r.number() as u8,
+            3 | 4 => task.deadline = r.number(),
+            5 | 6 => task.period = r.number(),
+            7 => task.succ[h] = r.word() as u16,
+            8 => task.succ[h] ^= 1 << r.below(ENTRIES),
+            9 => task.succ[h] ^= 1 << r.below(v),
+            10 => task.succ[h] = first(r.below(ENTRIES + 1)),
+            _ => table.costs[ENTRIES * i + h] = r.number(),
+        }
+    }
+    table
+}
+
+/// A table with any number in every field.
+pub fn wild_table(r: &mut Random) -> Table {
+    let mut table = Table::ZERO;
+    table.m = r.number() as u8;
+    table.n = r.number() as u8;
+    for task in &mut table.tasks {
+        task.v = r.number() as u8;
+        task.deadline = r.number();
+        task.period = r.number();
+        task.succ = std::array::from_fn(|_| r.word() as u16);
+    }
+    table.costs = std::array::from_fn(|_| r.number());
+    table
+}

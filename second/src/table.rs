@@ -1,0 +1,92 @@
+//! The table in memory, its marks and its ranges.
+
+/// Entries for tasks, used or not; also the entries for vertices of a task.
+pub const ENTRIES: usize = 16;
+/// Length of the rows of costs and of remainings: sixteen a task.
+pub const ROW: usize = ENTRIES * ENTRIES;
+/// The largest file in bytes.
+pub const LARGEST: usize = 5_060;
+
+pub const TABLE_MARK: [u8; 2] = [0x54, 0x42];
+pub const TASK_MARK: [u8; 2] = [0x54, 0x4B];
+
+pub const MOST_PROCESSORS: u8 = 8;
+pub const MOST_TASKS: u8 = 16;
+pub const MOST_VERTICES: u8 = 16;
+pub const MOST_EDGES: u32 = 120;
+/// D, T and each cost lie from 1 to this many ticks.
+pub const MOST_TICKS: u32 = 1_000_000;
+
+/// One task's entry. The costs stand in the table's row.
+#[derive(Clone, Copy, PartialEq, Eq, Debug)]
+pub struct Task {
+    pub v: u8,
+    pub deadline: u32,
+    pub period: u32,
+    /// Bit j of `succ[h]` is the edge from h to j.
+    pub succ: [u16; ENTRIES],
+}
+
+impl Task {
+    pub const ZERO: Task = Task {
+        v: 0,
+        deadline: 0,
+        period: 0,
+        succ: [0; ENTRIES],
+    };
+}
+
+/// A table in memory. Any number may stand in any field; only the reader
+/// promises that the rules hold.
+#[derive(Clone, Copy, PartialEq, Eq, Debug)]
+pub struct Table {
+    pub m: u8,
+    pub n: u8,
+    pub tasks: [Task; ENTRIES],
+    /// The cost of vertex h of task i stands at 16 i + h.
+    pub costs: [u32; ROW],
+}
+
+impl Table {
+    pub const ZERO: Table = Table {
+        m: 0,
+        n: 0,
+        tasks: [Task::ZERO; ENTRIES],
+        costs: [0; ROW],
+    };
+
+    /// The sixteen costs of a task, used or not.
+    pub fn costs_of(&self, task: usize) -> &[u32; ENTRIES] {
+        sixteen(&self.costs, task)
+    }
+}
+
+/// A task's sixteen places of a row.
+pub fn sixteen(row: &[u32; ROW], task: usize) -> &[u32; ENTRIES] {
+    row[ENTRIES * task..]
+        .first_chunk()
+        .expect("a row has sixteen places for each of sixteen tasks")
+}
+
+/// A refusal on the way: number and place.
+#[derive(Clone, Copy, PartialEq, Eq, Debug)]
+pub struct Stop {
+    pub number: u8,
+    pub place: usize,
+}
+
+/// Goes on if the rule holds, else stops with this number at this place.
+#[inline]
+pub fn need(holds: bool, number: u8, place: usize) -> Result<(), Stop> {
+    if holds {
+        Ok(())
+    } else {
+        Err(Stop { number, place })
+    }
+}
+
+/// Rule 4's range.
+#[inline]
+pub fn ticks_in_range(ticks: u32) -> bool {
+    (1..=MOST_TICKS).contains(&ticks)
+}

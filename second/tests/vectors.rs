@@ -1,0 +1,83 @@
+//! The recorded vectors: streams go both ways, all numbers are there.
+
+use second::random::*;
+use second::sum::*;
+use second::table::{Table, LARGEST};
+use second::vectors::*;
+
+fn numbers(answers: &[Expected]) -> [u32; 11] {
+    let mut counts = [0; 11];
+    for answer in answers {
+        counts[usize::from(answer.number)] += 1;
+    }
+    counts
+}
+
+#[test]
+fn cases_for_the_reader() {
+    let cases = read_cases(1);
+    let stream = read_stream(&cases);
+    let answers = answer_reads(&stream).unwrap();
+    assert_eq!(answers.len(), cases.len());
+    assert!(stream.len() < 600_000 && cases.len() > 3_000);
+    let counts = numbers(&answers);
+    assert!(counts[..9].iter().all(|count| *count > 50), "{counts:?}");
+    let zeros = table_sum(&Table::ZERO);
+    for (case, answer) in cases.iter().zip(&answers) {
+        let found = second::read(case);
+        assert_eq!((found.number, found.place), (answer.number, answer.place));
+        assert_eq!(answer.number != 0, answer.sum == zeros);
+    }
+    assert!(cases.iter().any(|case| case.len() == LARGEST));
+    assert_eq!(answer_reads(&stream[..stream.len() - 1]), None);
+    assert_eq!(text(&answers).lines().count(), cases.len());
+    assert_eq!(text(&answers[..1]), format!("1 0 {zeros}\n"));
+}
+
+#[test]
+fn cases_for_the_writer() {
+    let cases = write_cases(1);
+    let stream = write_stream(&cases);
+    let answers = answer_writes(&stream).unwrap();
+    assert_eq!(answers.len(), cases.len());
+    assert!(stream.len() < 600_000 && cases.len() > 2_000);
+    let counts = numbers(&answers);
+    for number in [0, 3, 4, 5, 6, 7, 9, 10] {
+        assert!(counts[number] > 40, "{counts:?}");
+    }
+    assert_eq!(counts[1] + counts[2] + counts[8], 0);
+    assert_eq!(answer_writes(&stream[..stream.len() - 1]), None);
+}
+
+#[test]
+fn patches_reach_every_field() {
+    let r = &mut Random::new(71);
+    let wild = wild_table(r);
+    let mut table = Table::ZERO;
+    let mut set = |field, value| apply(&mut table, Patch { field, value }).unwrap();
+    set(FIELD_M, u32::from(wild.m));
+    set(FIELD_N, u32::from(wild.n));
+    for i in 0..16 {
+        set(field_v(i), u32::from(wild.tasks[i].v));
+        set(field_d(i), wild.tasks[i].deadline);
+        set(field_t(i), wild.tasks[i].period);
+        for h in 0..16 {
+            set(field_succ(i, h), u32::from(wild.tasks[i].succ[h]));
+            set(field_cost(i, h), wild.costs[16 * i + h]);
+        }
+    }
+    assert_eq!(table, wild);
+    for (field, value) in [(2, 0), (64, 0), (768, 0), (0, 256), (256, 65_536)] {
+        assert_eq!(apply(&mut table, Patch { field, value }), None);
+    }
+}
+
+#[test]
+fn checksums() {
+    // Published values of 32-bit FNV-1a.
+    assert_eq!(fnv(b""), 0x811C_9DC5);
+    assert_eq!(fnv(b"a"), 0xE40C_292C);
+    assert_eq!(fnv(b"foobar"), 0xBF9C_F968);
+    assert_eq!(canonical(&Table::ZERO), [0; CANONICAL]);
+    assert_eq!(CANONICAL, 1_682);
+}
