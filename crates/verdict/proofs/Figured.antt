@@ -102,20 +102,21 @@ module _ (v : ℕ) (succ : List ℕ) (f g : ℕ → ℕ) (v1 : 1 ≤ v) (v16 : v
 
 module _ (t : Table) (good : GoodTable t) (k : ℕ) (b : k < t .n) where
   -- the longest chain of the successors and the sixteen costs as they lie in memory is len
-  pub len-is : longestOf (succ t k) (row 16 (λ u. getD (t .costs) (16 * k + u) 0)) ≡ len t k
+  pub len-found : (x : ℕ) → x ≡ longestOf (succ t k) (row 16 (λ u. getD (t .costs) (16 * k + u) 0)) → x ≡ len t k
   unfolding longestOf len edgeIn cost
-  len-is =
+  len-found x e =
       let g = good .each k b in
-      rw (g .no-cycle)
+      e
+      ∙ rw (g .no-cycle)
       (longest-within (vertices t k) (succ t k) (cost t k) (λ u. getD (row 16 (λ u. getD (t .costs) (16 * k + u) 0)) u 0)
       (g .v-low) (g .v-high) (g .no-cycle) (λ u w e. let q = g .ends u w e in (q .0, q .1))
       (λ u h. row-at 16 (λ u. getD (t .costs) (16 * k + u) 0) u 0 h) (g .unused))
 
   -- what is due, over rows that hold the periods and the vols
-  pub due-is : (times vols : List ℕ) → ((i : ℕ) → i < t .n → getD times i 0 ≡ T t i) → ((i : ℕ) → i < t .n → getD vols i 0 ≡ vol t i)
-      → sum (t .n) (λ i. roundedUp (D t k) (getD times i 0) * getD vols i 0) ≡ due t k
+  pub due-found : (times vols : List ℕ) → ((i : ℕ) → i < t .n → getD times i 0 ≡ T t i) → ((i : ℕ) → i < t .n → getD vols i 0 ≡ vol t i)
+      → (y : ℕ) → y ≡ sum (t .n) (λ i. roundedUp (D t k) (getD times i 0) * getD vols i 0) → y ≡ due t k
   unfolding due
-  due-is times vols p q = sum-same (t .n) _ _ (λ i h. ap₂ (λ (x y : ℕ). roundedUp (D t k) x * y) (p i h) (q i h))
+  due-found times vols p q y e = e ∙ sum-same (t .n) _ _ (λ i h. ap₂ (λ (x y : ℕ). roundedUp (D t k) x * y) (p i h) (q i h))
 
   -- what `due_of` requires
   pub due-ready : (times vols : List ℕ) → ((i : ℕ) → i < t .n → getD times i 0 ≡ T t i) → ((i : ℕ) → i < t .n → getD vols i 0 ≡ vol t i)
