@@ -43,11 +43,11 @@ margin-of-requires c κs =
     due-found (s .args .t1) (s .pre .0) (s .args .k) (s .pre .1) (s .args .times) (s .args .t3) (s .pre .2) (s .pre .3) _ (c .before .due-of .ensures) in
     margin-ready (s .args .t1) (s .pre .0) (s .args .k) (s .pre .1) _ _ l d
 
-mul-t12 : tie.Need-mul-t12
-mul-t12 c = search needs
+mul-vol : tie.Need-mul-vol
+mul-vol c = search needs
 
-array-read-t20 : tie.Need-array-read-t20
-array-read-t20 c = search needs
+array-read-vol : tie.Need-array-read-vol
+array-read-vol c = search needs
 
 returns : tie.Need-returns
 unfolding figuresOn D succ task noTask
@@ -72,6 +72,6 @@ figures-on-spec =
     cast-margin-of
     cast-margin-of-2
     margin-of-requires
-    mul-t12
-    array-read-t20
+    mul-vol
+    array-read-vol
     returns)
