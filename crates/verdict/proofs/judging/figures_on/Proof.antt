@@ -1,10 +1,10 @@
-use mathlib.Core.Path.{_≡_, _∙_}
+use mathlib.Core.Path.{_∙_}
 use mir.Syntax.{w64}
 use mir.Val.{SFits}
 use mir.Facts.{toZ-ofZ}
 use borrow.Author.Needs.{needs}
 use Rattle.table.specs.Memory.{noTask, task, D, succ}
-use Rattle.verdict.specs.Verdicts.{len, due, figuresOn}
+use Rattle.verdict.specs.Verdicts.{figuresOn}
 use Rattle.verdict.proofs.Figured.{len-found, due-found, due-ready, margin-ready, margin-found}
 use Rattle.verdict.proofs.Judged.{figures-are}
 use Rattle.verdict.proofs.judging.figures_on.Statement.{statement}
