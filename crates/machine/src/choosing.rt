@@ -40,7 +40,7 @@ fn ready_in(succ: [u16; 16], remaining: &[u32; 256], i: usize) -> u16
     unfinished & !led
 }
 
-// Those of a live job; an idle task has none.
+// Task i's available vertices: those of a live job; an idle task has none.
 fn available_in(a: Activity, succ: [u16; 16], remaining: &[u32; 256], i: usize) -> u16
     requires { ⌜ i < 16 ⌝ }
     ensures { λ r. ⌜ ((u : ℕ) → u < 16 → bit r u ≡ (isLive a && isReady succ (now (remaining .entry)) i u)) ⌝ }
@@ -80,7 +80,7 @@ fn ticks_left(st: State) -> [u32; 16]
     ticks
 }
 
-// The task that ranks first of those below i, and i.
+// The task that ranks first of those up to i, `best` being that of those before it.
 fn better(sets: [u16; 16], left: [u32; 16], best: usize, i: usize) -> usize
     requires { ⌜ (i < 16) × RanksFirst i sets left best ⌝ }
     ensures { λ r. ⌜ RanksFirst (i + 1) sets left r ⌝ }
