@@ -12,3 +12,5 @@ pub mod Passed
 pub mod PutLaws
 pub mod TypedTable
 pub mod WriteLaws
+-- The contract allows one result and one buffer.
+pub mod Unique

@@ -3,8 +3,8 @@ mod checking;
 mod entries;
 mod writing;
 
-pub use writing::write;
 use table::Outcome;
+pub use writing::write;
 
 // The tests on a table, or on a part of it, in file order: the refusal, or the place after it.
 pub struct Checked {

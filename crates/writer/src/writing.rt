@@ -8,12 +8,12 @@ ghost use Rattle.graph.specs.Words.{inOrder};
 ghost use Rattle.table.specs.declared.Outcome.the-variants.{Read};
 ghost use Rattle.table.specs.Writing.{bytes4, edgeBytes, encodeTask, encode, writing, written};
 ghost use Rattle.writer.specs.Checking.{rowKeys, keysOf, costBytes, taskBytes, checked};
+use crate::checking;
+use crate::entries;
 use table::Outcome;
 use table::Table;
 use table::Task;
 use table::Written;
-use crate::checking;
-use crate::entries;
 
 // Four bytes at a place, the lowest first.
 fn put4(buffer: &mut [u8], at: usize, x: u32)
@@ -63,8 +63,9 @@ fn put_row(buffer: &mut [u8], at: usize, u: u8, bits: u16) -> usize
     while x != 0 {
         let z = u16::trailing_zeros(x);
         w += z;
+        let to = (w % 256) as u8;
         buffer[p] = u;
-        buffer[p + 1] = (w % 256) as u8;
+        buffer[p + 1] = to;
         p += 2;
         x = (x >> z) / 2;
         w += 1;
