@@ -1,0 +1,12 @@
+// The C face: functions that a program in C or Rust calls, and the answers that they hand back. include/milltundra.h declares them.
+mod tables;
+
+pub use tables::mt_read;
+
+// Reading's number, place and table.
+#[repr(C)]
+pub struct ReadAnswer {
+    pub number: u8,
+    pub place: u64,
+    pub table: table::Table,
+}
