@@ -27,7 +27,7 @@ pub extern "C" fn mt_read(bytes: &[u8]) -> ReadAnswer
 pub extern "C" fn mt_write(table: Table, buffer: &mut [u8]) -> WriteAnswer
     ensures { λ r. ⌜ (r ≡ writeAnswer table (length (now (buffer .entry)))) × (now (buffer .exit) ≡ written table (now (buffer .entry))) ⌝ }
 {
-    let w = table::write(table, buffer);
+    let w = writer::write(table, buffer);
     WriteAnswer {
         number: table::writing_number(w),
         place: table::writing_place(w) as u64,
