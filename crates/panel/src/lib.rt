@@ -2,6 +2,7 @@
 mod tables;
 
 pub use tables::mt_read;
+pub use tables::mt_write;
 
 // Reading's number, place and table.
 #[repr(C)]
@@ -9,4 +10,11 @@ pub struct ReadAnswer {
     pub number: u8,
     pub place: u64,
     pub table: table::Table,
+}
+
+// Writing's number and place.
+#[repr(C)]
+pub struct WriteAnswer {
+    pub number: u8,
+    pub place: u64,
 }
