@@ -1,5 +1,5 @@
 -- A search for the lowest number that passes a test, and a set that is built number by number.
-use mathlib.Core.Path.{_≡_, refl, sym, ap, _∙_}
+use mathlib.Core.Path.{_≡_, refl, sym, ap, subst, _∙_}
 use mathlib.Core.Logic.{⊎-elim}
 use mathlib.Core.Bool.{Bool, true, false}
 use Prim.Native.Nat.{ℕ, zero, suc, _+_, _*_, _/_, _%_, _^_, _≤_, _<_}
@@ -8,27 +8,27 @@ use native.Mathlib.Nat.{pow-suc, add-zero}
 use lib.Pow.{pow-mono}
 use native.Mathlib.Numerals.{add-one}
 use lib.Dec.{eqb}
-use Rattle.graph.specs.Words.{pick, bit, sum, lowest, setOf, lowestOr}
+use Rattle.graph.specs.Words.{pick, bit, sum, lowest, setOf}
 use Rattle.graph.proofs.Facts.{sum-first, lowest-is, lowest-none}
 use Rattle.graph.proofs.Bits.{bit-low, bit-up}
-use Rattle.machine.proofs.Lowest.{lowest-cases}
+use Rattle.machine.proofs.Lowest.{Lowest, None, lowest-or-none}
 
--- `lowestOr` from the lowest that a search found, where d stands for none
-module _ {ℓ} {X : Type ℓ} (d n : ℕ) (p : ℕ → Bool) (f : ℕ → X) (other : X) (b : n ≤ d) (r : ℕ) (e : r ≡ lowest d n p) where
-  pub lowestOr-found : r < d → lowestOr n p f other ≡ f r
-  lowestOr-found h = ⊎-elim
-      (λ q. q .2 ∙ ap f (sym (e ∙ lowest-is d n p (q .0) (q .1 .below) (q .1 .passes) (q .1 .none-lower))))
-      (λ q. let z = lowest-none d n p (q .0) in absurd (omega arith))
-      (lowest-cases n p f other)
+-- what a search hands back, d where it found none
+module _ (d n : ℕ) (p : ℕ → Bool) (b : n ≤ d) (r : ℕ) (e : r ≡ lowest d n p) where
+  pub found : r < d → Lowest n p r
+  found h = ⊎-elim
+      (λ q. subst (Lowest n p) (sym (e ∙ lowest-is d n p (q .0) (q .1 .below) (q .1 .passes) (q .1 .none-lower))) (q .1))
+      (λ none. let z = lowest-none d n p none in absurd (omega arith))
+      (lowest-or-none n p)
 
-  pub lowestOr-not : d ≤ r → lowestOr n p f other ≡ other
-  lowestOr-not h = ⊎-elim
+  pub found-none : d ≤ r → None n p
+  found-none h = ⊎-elim
       (λ q.
       let z = lowest-is d n p (q .0) (q .1 .below) (q .1 .passes) (q .1 .none-lower) in
       let y = q .1 .below in
       absurd (omega arith))
-      (λ q. q .1)
-      (lowest-cases n p f other)
+      (λ none. none)
+      (lowest-or-none n p)
 
 -- ---- the set of those below n that pass a test
 set-next : (p : ℕ → Bool) (i : ℕ) → setOf (i + 1) p ≡ setOf i p + pick (p i) (2 ^ i) 0

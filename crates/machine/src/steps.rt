@@ -7,13 +7,13 @@ ghost use lib.ListN.{getD, take};
 ghost use lib.Dec.{eqb};
 ghost use Rattle.graph.specs.Words.{pick, all, row, isIn, Distinct, lowest};
 ghost use Rattle.machine.specs.declared.Activity.the-variants.{Idle, Live};
-ghost use Rattle.machine.specs.States.{isLive, waitOf, deadlineOf, wrap, zeros};
+ghost use Rattle.machine.specs.States.{isLive, waitOf, deadlineOf, wrap};
 ghost use Rattle.machine.specs.Steps.{released, withWait, worked, finished, ended, missed};
 use crate::Activity;
 use crate::Chosen;
-use crate::Phase;
 use crate::State;
 use crate::TaskState;
+use crate::fitting;
 use table::Table;
 
 // One less, not below 0.
@@ -41,20 +41,6 @@ fn is_live(a: Activity) -> bool
     match a {
         Activity::Idle { wait } => false,
         Activity::Live { deadline, wait } => true,
-    }
-}
-
-// A state of zeros but for its clock and its phase.
-pub(crate) fn zeros(clock: u32, phase: Phase) -> State
-    ensures { λ r. ⌜ r ≡ zeros clock phase ⌝ }
-{
-    let a = Activity::Idle { wait: 0 };
-    let s = TaskState { activity: a };
-    State {
-        clock: clock,
-        phase: phase,
-        tasks: [s; 16],
-        remaining: [0u32; 256],
     }
 }
 
@@ -131,10 +117,12 @@ fn with_wait(a: Activity, w: u32) -> Activity
 fn next_wait(wait: u32, named: bool, period: u32) -> u32
     ensures { λ r. ⌜ r ≡ pick named (period - 1) (wait - 1) ⌝ }
 {
+    let whole = less(period);
+    let fallen = less(wait);
     if named {
-        return less(period);
+        return whole;
     }
-    less(wait)
+    fallen
 }
 
 // A task's entry after step 4.
@@ -174,7 +162,9 @@ fn ran(st: State, chosen: Chosen) -> [u32; 256]
     let mut j: usize = 0;
     while j < chosen.count {
         let k = wide(chosen.keys[j]);
-        remaining[k] = less(remaining[k]);
+        let before = remaining[k];
+        let after = less(before);
+        remaining[k] = after;
         j += 1;
     }
     remaining
@@ -194,19 +184,6 @@ pub(crate) fn work(t: Table, st: State, named: u16, chosen: Chosen) -> State
     }
 }
 
-// Whether nothing remains of task i.
-fn nothing_left(remaining: &[u32; 256], i: usize) -> bool
-    requires { ⌜ i < 16 ⌝ }
-    ensures { λ r. ⌜ r ≡ all 16 (λ u. eqb (getD (now (remaining .entry)) (16 * i + u) 0) 0) ⌝ }
-{
-    for u in 0..16usize {
-        if remaining[16 * i + u] != 0 {
-            return false;
-        }
-    }
-    true
-}
-
 // Two to the power i.
 fn power(i: usize) -> u16
     requires { ⌜ i < 16 ⌝ }
@@ -222,7 +199,7 @@ fn ends(s: TaskState, remaining: &[u32; 256], i: usize) -> bool
 {
     let a = s.activity;
     if is_live(a) {
-        return nothing_left(remaining, i);
+        return fitting::nothing_left(remaining, i);
     }
     false
 }
@@ -234,7 +211,8 @@ pub(crate) fn finished_set(st: State) -> u16
     let mut set: u16 = 0;
     for i in 0..16usize {
         if ends(st.tasks[i], &st.remaining, i) {
-            set += power(i);
+            let member = power(i);
+            set += member;
         }
     }
     set

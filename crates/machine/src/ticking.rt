@@ -6,8 +6,9 @@ ghost use lib.ListN.{take};
 ghost use lib.Dec.{ltb, leb};
 ghost use Rattle.graph.specs.Words.{bit, lowest, Distinct};
 ghost use Rattle.machine.specs.States.{waitOf, wait};
-ghost use Rattle.machine.specs.Steps.{worked};
-ghost use Rattle.machine.specs.Ticking.{nobody, pairOf, runList, ticked, judged, advanceTo, refuse};
+ghost use Rattle.table.specs.Good.{GoodTable};
+ghost use Rattle.machine.specs.Steps.{ownChoice, worked};
+ghost use Rattle.machine.specs.Ticking.{nobody, pairOf, runList, ticked, judged, advanceTo, refuse, tickOn};
 use crate::Answer;
 use crate::Chosen;
 use crate::Pair;
@@ -16,6 +17,9 @@ use crate::Reply;
 use crate::State;
 use crate::TaskState;
 use crate::Ticked;
+use crate::choosing;
+use crate::fitting;
+use crate::opening;
 use crate::steps;
 use table::Table;
 
@@ -96,8 +100,8 @@ fn judge(chosen: Chosen, done: u16, st: State) -> Ticked
 {
     let i = steps::first_missed(st);
     if i < 16 {
-        let p = Phase::Stopped(i);
-        return told(34, i, chosen, done, steps::zeros(st.clock, p));
+        let stopped = opening::zeros(st.clock, Phase::Stopped(i));
+        return told(34, i, chosen, done, stopped);
     }
     told(0, 255, chosen, done, st)
 }
@@ -159,4 +163,28 @@ fn first_early(named: u16, n: u8, st: State) -> u8
         }
     }
     16
+}
+
+// The tick on a table.
+pub(crate) fn tick_on(t: Table, st: State, named: u16) -> Ticked
+    requires { ⌜ GoodTable t ⌝ }
+    ensures { λ r. ⌜ r ≡ tickOn ownChoice t st named ⌝ }
+{
+    if !fitting::fits_state(t, st) {
+        return refuse(st, 30, 0, 255);
+    }
+    let p = st.phase;
+    let Phase::Running = p else {
+        return refuse(st, 32, 0, 255);
+    };
+    let beyond = first_beyond(named, t.n);
+    if beyond < 16 {
+        return refuse(st, 31, 0, beyond);
+    }
+    let early = first_early(named, t.n, st);
+    if early < 16 {
+        return refuse(st, 33, 0, early);
+    }
+    let begun = steps::release(t, st, named);
+    advance_from(t, begun, named, choosing::choose(t, begun))
 }

@@ -23,11 +23,11 @@ element-copy-out-wide c = search needs
 wide-requires : tie.Need-wide-requires Inv-loop μ-loop
 wide-requires c κs = search needs
 
-mul-less : tie.Need-mul-less Inv-loop μ-loop
-mul-less c = search needs
+mul-before : tie.Need-mul-before Inv-loop μ-loop
+mul-before c = search needs
 
-array-read-less : tie.Need-array-read-less Inv-loop μ-loop
-array-read-less c = search needs
+array-read-before : tie.Need-array-read-before Inv-loop μ-loop
+array-read-before c = search needs
 
 less-requires : tie.Need-less-requires Inv-loop μ-loop
 less-requires c κs = search needs
@@ -74,8 +74,8 @@ ran-spec =
     loop-holds
     element-copy-out-wide
     wide-requires
-    mul-less
-    array-read-less
+    mul-before
+    array-read-before
     less-requires
     mul-remaining
     array-write-remaining
