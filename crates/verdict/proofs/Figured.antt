@@ -2,8 +2,9 @@
 use mathlib.Core.Path.{_≡_, sym, ap, ap₂, _∙_}
 use mathlib.Core.Bool.{Bool, true, false, cond}
 use mathlib.Core.List.{List, [], _∷_}
-use Prim.Native.Nat.{ℕ, zero, suc, _+_, _*_, _-_, _^_, _≤_, _<_}
+use Prim.Native.Nat.{ℕ, zero, suc, _+_, _*_, _-_, _/_, _^_, _≤_, _<_}
 use native.Mathlib.Omega.{arith}
+use native.Mathlib.Nat.{mul-le-mul, div-le-self}
 use native.Mathlib.Numerals.{add-one}
 use native.Mathlib.Decide.{ℕ-discrete, decLt}
 use lib.Dec.{ltb}
@@ -12,7 +13,7 @@ use lib.Seq.{getD-set-same, getD-set-other, ext-getD}
 use lib.IntN.{ℤ, pos, negsuc, _-ℤ_}
 use lib.Signed.{mag, ltZ}
 use mir.Syntax.{w64}
-use mir.Val.{SFits, toZ, ofZ}
+use mir.Val.{Fits, SFits, toZ, ofZ}
 use mir.Facts.{toZ-pos, toZ-ofZ}
 use Rattle.graph.specs.Words.{sum, row}
 use Rattle.graph.specs.Graph.{edge, acyclic, Chain, alone, joined, sumAlong, longest, longestOf}
@@ -102,20 +103,21 @@ module _ (v : ℕ) (succ : List ℕ) (f g : ℕ → ℕ) (v1 : 1 ≤ v) (v16 : v
 
 module _ (t : Table) (good : GoodTable t) (k : ℕ) (b : k < t .n) where
   -- the longest chain of the successors and the sixteen costs as they lie in memory is len
-  pub len-is : longestOf (succ t k) (row 16 (λ u. getD (t .costs) (16 * k + u) 0)) ≡ len t k
+  pub len-found : (x : ℕ) → x ≡ longestOf (succ t k) (row 16 (λ u. getD (t .costs) (16 * k + u) 0)) → x ≡ len t k
   unfolding longestOf len edgeIn cost
-  len-is =
+  len-found x e =
       let g = good .each k b in
-      rw (g .no-cycle)
+      e
+      ∙ rw (g .no-cycle)
       (longest-within (vertices t k) (succ t k) (cost t k) (λ u. getD (row 16 (λ u. getD (t .costs) (16 * k + u) 0)) u 0)
       (g .v-low) (g .v-high) (g .no-cycle) (λ u w e. let q = g .ends u w e in (q .0, q .1))
       (λ u h. row-at 16 (λ u. getD (t .costs) (16 * k + u) 0) u 0 h) (g .unused))
 
   -- what is due, over rows that hold the periods and the vols
-  pub due-is : (times vols : List ℕ) → ((i : ℕ) → i < t .n → getD times i 0 ≡ T t i) → ((i : ℕ) → i < t .n → getD vols i 0 ≡ vol t i)
-      → sum (t .n) (λ i. roundedUp (D t k) (getD times i 0) * getD vols i 0) ≡ due t k
+  pub due-found : (times vols : List ℕ) → ((i : ℕ) → i < t .n → getD times i 0 ≡ T t i) → ((i : ℕ) → i < t .n → getD vols i 0 ≡ vol t i)
+      → (y : ℕ) → y ≡ sum (t .n) (λ i. roundedUp (D t k) (getD times i 0) * getD vols i 0) → y ≡ due t k
   unfolding due
-  due-is times vols p q = sum-same (t .n) _ _ (λ i h. ap₂ (λ (x y : ℕ). roundedUp (D t k) x * y) (p i h) (q i h))
+  due-found times vols p q y e = e ∙ sum-same (t .n) _ _ (λ i h. ap₂ (λ (x y : ℕ). roundedUp (D t k) x * y) (p i h) (q i h))
 
   -- what `due_of` requires
   pub due-ready : (times vols : List ℕ) → ((i : ℕ) → i < t .n → getD times i 0 ≡ T t i) → ((i : ℕ) → i < t .n → getD vols i 0 ≡ vol t i)
@@ -143,6 +145,22 @@ module _ (t : Table) (good : GoodTable t) (k : ℕ) (b : k < t .n) where
     pub margin-found : (z : ℤ) → z ≡ pos (t .m * D t k) -ℤ pos ((t .m - 1) * x + y) → z ≡ margin t k
     unfolding margin
     margin-found z e = e ∙ ap₂ (λ (x y : ℕ). pos (t .m * D t k) -ℤ pos ((t .m - 1) * x + y)) l d
+
+-- ---- what the code computes stays small, whatever the numbers are
+pub quotient-fits : (x y : ℕ) → x < 2 ^ 32 → Fits w64 (x / y)
+quotient-fits x y h = record { fits = omega (arith, div-le-self x y) }
+
+pub product-small : (a b : ℕ) → a ≤ 8 → b ≤ 16000000 → a * b < 2 ^ 62
+product-small a b h k = omega (arith, mul-le-mul {n₂ = 8} {m₂ = 16000000} h k)
+
+pub spent-small : (a b c : ℕ) → a ≤ 8 → b ≤ 16000000 → c ≤ 240000016000000 → a * b + c < 2 ^ 62
+spent-small a b c h k l = omega (arith, mul-le-mul {n₂ = 8} {m₂ = 16000000} h k)
+
+pub product-fits : (a b : ℕ) → a ≤ 8 → b ≤ 16000000 → Fits w64 (a * b)
+product-fits a b h k = record { fits = omega (arith, product-small a b h k) }
+
+pub spent-fits : (a b c : ℕ) → a ≤ 8 → b ≤ 16000000 → c ≤ 240000016000000 → Fits w64 (a * b + c)
+spent-fits a b c h k l = record { fits = omega (arith, spent-small a b c h k l) }
 
 -- ---- a difference of two numbers as the machine has it
 either-mag : (c : Bool) (x y n : ℕ) → x ≤ n → y ≤ n → mag (cond c (negsuc x) (pos y)) ≤ n

@@ -87,9 +87,10 @@ pub(crate) fn figures_on(t: Table, times: [u32; 16], vols: [u64; 16], k: usize) 
     let len = figuring::len_of(&t.costs, k, succ);
     let due = figuring::due_of(t.n as usize, x.d, times, vols);
     let margin = figuring::margin_of(t.m as u64, x.d as u64, len, due);
+    let vol = vols[k];
     Figures {
         found: true,
-        vol: vols[k],
+        vol: vol,
         len: len,
         due: due,
         margin: margin,

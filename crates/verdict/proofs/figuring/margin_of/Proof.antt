@@ -1,30 +1,23 @@
-use Prim.Native.Nat.{_*_, _-_, _≤_}
 use native.Mathlib.Omega.{arith}
-use native.Mathlib.Nat.{mul-le-mul}
 use borrow.Author.Needs.{needs}
+use Rattle.verdict.proofs.Figured.{product-small, spent-small, product-fits, spent-fits}
 use Rattle.verdict.proofs.figuring.margin_of.Statement.{statement}
 use Rattle.verdict.proofs.figuring.margin_of.Tie as tie
 
-allowed : (c : tie.Start) → c .args .m * c .args .d ≤ 8 * 1000000
-allowed c = mul-le-mul (c .pre .1) (c .pre .2)
-
-chained : (c : tie.Start) → (c .args .m - 1) * c .args .len ≤ 8 * 16000000
-chained c = let h : c .args .m - 1 ≤ 8 = omega arith in mul-le-mul h (c .pre .3)
-
 mul-less : tie.Need-mul-less
-mul-less c = omega (arith, allowed c)
+mul-less c = product-fits _ _ (omega arith) (omega arith)
 
 sub-less : tie.Need-sub-less
 sub-less c = search needs
 
 mul-less-2 : tie.Need-mul-less-2
-mul-less-2 c = omega (arith, chained c)
+mul-less-2 c = product-fits _ _ (omega arith) (omega arith)
 
 add-less : tie.Need-add-less
-add-less c = omega (arith, chained c)
+add-less c = spent-fits _ _ _ (omega arith) (omega arith) (omega arith)
 
 less-requires : tie.Need-less-requires
-less-requires c κs = omega (arith, allowed c, chained c)
+less-requires c κs = (product-small _ _ (omega arith) (omega arith), spent-small _ _ _ (omega arith) (omega arith) (omega arith))
 
 returns : tie.Need-returns
 returns c = search needs

@@ -3,6 +3,7 @@ use native.Mathlib.Omega.{arith}
 use borrow.Author.Needs.{needs}
 use Rattle.verdict.specs.Verdicts.{roundedUp}
 use Rattle.verdict.proofs.Amounts.{up-most}
+use Rattle.verdict.proofs.Figured.{quotient-fits}
 use Rattle.verdict.proofs.figuring.rounded_up.Statement.{statement}
 use Rattle.verdict.proofs.figuring.rounded_up.Tie as tie
 
@@ -16,8 +17,7 @@ div-result : tie.Need-div-result
 div-result c = search needs
 
 cast-result : tie.Need-cast-result
-unfolding roundedUp
-cast-result c = omega (arith, up-most (c .args .d) (c .args .t) (c .pre .1))
+cast-result c = quotient-fits _ _ (omega arith)
 
 returns : tie.Need-returns
 unfolding roundedUp

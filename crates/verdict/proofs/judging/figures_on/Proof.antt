@@ -1,11 +1,11 @@
-use mathlib.Core.Path.{_≡_, _∙_}
+use mathlib.Core.Path.{_∙_}
 use mir.Syntax.{w64}
 use mir.Val.{SFits}
 use mir.Facts.{toZ-ofZ}
 use borrow.Author.Needs.{needs}
 use Rattle.table.specs.Memory.{noTask, task, D, succ}
-use Rattle.verdict.specs.Verdicts.{len, due, figuresOn}
-use Rattle.verdict.proofs.Figured.{len-is, due-is, due-ready, margin-ready, margin-found}
+use Rattle.verdict.specs.Verdicts.{figuresOn}
+use Rattle.verdict.proofs.Figured.{len-found, due-found, due-ready, margin-ready, margin-found}
 use Rattle.verdict.proofs.Judged.{figures-are}
 use Rattle.verdict.proofs.judging.figures_on.Statement.{statement}
 use Rattle.verdict.proofs.judging.figures_on.Tie as tie
@@ -24,7 +24,9 @@ cast-due-of c = search needs
 
 due-of-requires : tie.Need-due-of-requires
 unfolding D task noTask
-due-of-requires c κs = let s = c .before .before .before .before .before in due-ready (s .args .t1) (s .pre .0) (s .args .k) (s .pre .1) (s .args .times) (s .args .t3) (s .pre .2) (s .pre .3)
+due-of-requires c κs =
+    let s = c .before .before .before .before .before in
+    due-ready (s .args .t1) (s .pre .0) (s .args .k) (s .pre .1) (s .args .times) (s .args .t3) (s .pre .2) (s .pre .3)
 
 cast-margin-of : tie.Need-cast-margin-of
 cast-margin-of c = search needs
@@ -36,23 +38,27 @@ margin-of-requires : tie.Need-margin-of-requires
 unfolding D succ task noTask
 margin-of-requires c κs =
     let s = c .before .before .before .before .before .before .before in
-    margin-ready (s .args .t1) (s .pre .0) (s .args .k) (s .pre .1) _ _ (c .before .before .len-of .ensures ∙ len-is (s .args .t1) (s .pre .0) (s .args .k) (s .pre .1))
-    (c .before .due-of .ensures ∙ due-is (s .args .t1) (s .pre .0) (s .args .k) (s .pre .1) (s .args .times) (s .args .t3) (s .pre .2) (s .pre .3))
+    let l = len-found (s .args .t1) (s .pre .0) (s .args .k) (s .pre .1) _ (c .before .before .len-of .ensures) in
+    let d =
+    due-found (s .args .t1) (s .pre .0) (s .args .k) (s .pre .1) (s .args .times) (s .args .t3) (s .pre .2) (s .pre .3) _ (c .before .due-of .ensures) in
+    margin-ready (s .args .t1) (s .pre .0) (s .args .k) (s .pre .1) _ _ l d
 
-mul-t12 : tie.Need-mul-t12
-mul-t12 c = search needs
+mul-vol : tie.Need-mul-vol
+mul-vol c = search needs
 
-array-read-t20 : tie.Need-array-read-t20
-array-read-t20 c = search needs
+array-read-vol : tie.Need-array-read-vol
+array-read-vol c = search needs
 
 returns : tie.Need-returns
 unfolding figuresOn D succ task noTask
 returns c =
     let s = c .before .before .before .before .before .before .before .before in
-    let l : c .before .before .before .len-of .result ≡ len (s .args .t1) (s .args .k) = c .before .before .before .len-of .ensures ∙ len-is (s .args .t1) (s .pre .0) (s .args .k) (s .pre .1) in
-    let d : c .before .before .due-of .result ≡ due (s .args .t1) (s .args .k) = c .before .before .due-of .ensures ∙ due-is (s .args .t1) (s .pre .0) (s .args .k) (s .pre .1) (s .args .times) (s .args .t3) (s .pre .2) (s .pre .3) in
+    let l = len-found (s .args .t1) (s .pre .0) (s .args .k) (s .pre .1) _ (c .before .before .before .len-of .ensures) in
+    let d =
+    due-found (s .args .t1) (s .pre .0) (s .args .k) (s .pre .1) (s .args .times) (s .args .t3) (s .pre .2) (s .pre .3) _ (c .before .before .due-of .ensures) in
     let f : SFits w64 (c .margin-of .result) = record { sfits = c .margin-of .ok } in
-    figures-are _ _ _ _ _ _ (s .pre .3 (s .args .k) (s .pre .1)) l d (toZ-ofZ f ∙ margin-found (s .args .t1) (s .pre .0) (s .args .k) (s .pre .1) _ _ l d _ (c .margin-of .ensures))
+    let its = toZ-ofZ f ∙ margin-found (s .args .t1) (s .pre .0) (s .args .k) (s .pre .1) _ _ l d _ (c .margin-of .ensures) in
+    figures-are _ _ _ _ _ _ (s .pre .3 (s .args .k) (s .pre .1)) l d its
 
 pub figures-on-spec : {M : Type 1} → statement M
 figures-on-spec =
@@ -66,6 +72,6 @@ figures-on-spec =
     cast-margin-of
     cast-margin-of-2
     margin-of-requires
-    mul-t12
-    array-read-t20
+    mul-vol
+    array-read-vol
     returns)

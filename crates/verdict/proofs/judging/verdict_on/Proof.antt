@@ -8,7 +8,7 @@ use mir.Syntax.{w64}
 use mir.Val.{toZ, Fits, SFits}
 use borrow.Author.Needs.{needs}
 use Rattle.table.specs.Memory.{noTask, task, D, succ}
-use Rattle.verdict.proofs.Figured.{len-is, due-is, due-ready, margin-ready, margin-found}
+use Rattle.verdict.proofs.Figured.{len-found, due-found, due-ready, margin-ready, margin-found}
 use Rattle.verdict.proofs.Judged.{SoFar, none-yet, met-negative, kept, taken, all-passed}
 use Rattle.verdict.proofs.judging.verdict_on.Statement.{statement}
 use Rattle.verdict.proofs.judging.verdict_on.Tie as tie
@@ -62,8 +62,8 @@ margin-of-requires c κs =
     let p = c .before .before .before .before .before .before .before .before .before .periods in
     let v = c .before .before .before .before .before .before .before .before .before .before .volumes in
     let b : k < s .args .t1 .n = omega arith in
-    margin-ready (s .args .t1) (s .pre) k b _ _ (c .before .before .len-of .ensures ∙ len-is (s .args .t1) (s .pre) k b)
-    (c .before .due-of .ensures ∙ due-is (s .args .t1) (s .pre) k b (p .result) (v .result) (p .ensures) (v .ensures))
+    margin-ready (s .args .t1) (s .pre) k b _ _ (len-found (s .args .t1) (s .pre) k b _ (c .before .before .len-of .ensures))
+    (due-found (s .args .t1) (s .pre) k b (p .result) (v .result) (p .ensures) (v .ensures) _ (c .before .due-of .ensures))
 
 cast-t25 : tie.Need-cast-t25 Inv-loop μ-loop
 cast-t25 c = let h = c .before .before .before .before .before .before .before .before .before .before .before .before .before .pre .n-high in omega arith
@@ -76,8 +76,8 @@ returns c =
     let p = c .before .before .before .before .before .before .before .before .before .before .before .periods in
     let v = c .before .before .before .before .before .before .before .before .before .before .before .before .volumes in
     let b : l .k < s .args .t1 .n = omega arith in
-    let n = c .before .before .before .before .len-of .ensures ∙ len-is (s .args .t1) (s .pre) (l .k) b in
-    let d = c .before .before .before .due-of .ensures ∙ due-is (s .args .t1) (s .pre) (l .k) b (p .result) (v .result) (p .ensures) (v .ensures) in
+    let n = len-found (s .args .t1) (s .pre) (l .k) b _ (c .before .before .before .before .len-of .ensures) in
+    let d = due-found (s .args .t1) (s .pre) (l .k) b (p .result) (v .result) (p .ensures) (v .ensures) _ (c .before .before .before .due-of .ensures) in
     let f : SFits w64 (c .before .margin-of .result) = record { sfits = c .before .margin-of .ok } in
     let its = toZ-ofZ f ∙ margin-found (s .args .t1) (s .pre) (l .k) b _ _ n d _ (c .before .margin-of .ensures) in
     met-negative (s .args .t1) (s .pre) (l .k) _ _ b (l .inv .1) _ its (c .if1 .taken)
@@ -99,8 +99,8 @@ loop-again c =
     let p = c .before .before .before .before .before .before .before .before .before .before .before .before .periods in
     let v = c .before .before .before .before .before .before .before .before .before .before .before .before .before .volumes in
     let b : l .k < s .args .t1 .n = omega arith in
-    let n = c .before .before .before .before .before .len-of .ensures ∙ len-is (s .args .t1) (s .pre) (l .k) b in
-    let d = c .before .before .before .before .due-of .ensures ∙ due-is (s .args .t1) (s .pre) (l .k) b (p .result) (v .result) (p .ensures) (v .ensures) in
+    let n = len-found (s .args .t1) (s .pre) (l .k) b _ (c .before .before .before .before .before .len-of .ensures) in
+    let d = due-found (s .args .t1) (s .pre) (l .k) b (p .result) (v .result) (p .ensures) (v .ensures) _ (c .before .before .before .before .due-of .ensures) in
     let f : SFits w64 (c .before .before .margin-of .result) = record { sfits = c .before .before .margin-of .ok } in
     let its = toZ-ofZ f ∙ margin-found (s .args .t1) (s .pre) (l .k) b _ _ n d _ (c .before .before .margin-of .ensures) in
     let smaller = taken (s .args .t1) (s .pre) (l .k) _ _ b (l .inv .1) _ its (c .before .if1 .left) in

@@ -1,0 +1,43 @@
+//! Tables of the sizes that are measured.
+
+use second::random::{random_edges, ticks, Random};
+use second::{Table, Task};
+
+/// A size of table, with some tables of it.
+pub struct Size {
+    pub name: &'static str,
+    pub tables: Vec<Table>,
+}
+
+/// Tables of each size: the largest file, as many vertices without an edge, and a typical one.
+pub fn sizes(r: &mut Random, count: usize) -> Vec<Size> {
+    let mut size = |name, n, v, density| Size {
+        name,
+        tables: (0..count).map(|_| table(r, n, v, density)).collect(),
+    };
+    vec![
+        size("16 tasks of 16 vertices, 120 edges", 16, 16, 16),
+        size("16 tasks of 16 vertices, no edges", 16, 16, 0),
+        size("4 tasks of 6 vertices, some edges", 4, 6, 6),
+    ]
+}
+
+/// n tasks of v vertices each, with `density` of 16 pairs of vertices joined.
+fn table(r: &mut Random, n: usize, v: usize, density: usize) -> Table {
+    let mut table = Table {
+        m: r.range(1, 8) as u8,
+        n: n as u8,
+        ..Table::ZERO
+    };
+    for i in 0..n {
+        let (one, other) = (ticks(r), ticks(r));
+        table.tasks[i] = Task {
+            v: v as u8,
+            deadline: one.min(other),
+            period: one.max(other),
+            succ: random_edges(r, v, density),
+        };
+        table.costs[16 * i..][..v].fill_with(|| ticks(r));
+    }
+    table
+}

@@ -1,0 +1,99 @@
+//! Reads and writes a second, ours beside the second program's: the same inputs in one run, the sides in turn, so that other load
+//! falls on both. Buffers are not cleared in between. The ratio is ours over theirs: above 1, ours is the quicker.
+
+use bench::{sizes, Size};
+use compare::face;
+use second::random::{file, Random};
+use second::table::LARGEST;
+use std::hint::black_box;
+use std::time::Instant;
+
+const INPUTS: usize = 64;
+/// Turns of each side; a turn takes about `TURN` seconds.
+const TURNS: usize = 151;
+const TURN: f64 = 0.004;
+
+/// What both sides do with input k.
+type Work<'a> = Box<dyn FnMut(usize) + 'a>;
+
+fn main() {
+    let seed = 1;
+    println!(
+        "{:<44}{:>16}{:>18}{:>8}{:>16}",
+        "", "ours a second", "theirs a second", "ratio", "median of turns"
+    );
+    for size in sizes(&mut Random::new(seed), INPUTS) {
+        reading(&size);
+        writing(&size);
+    }
+}
+
+fn reading(size: &Size) {
+    let files: Vec<Vec<u8>> = size.tables.iter().map(file).collect();
+    let ours = |k: usize| {
+        black_box(face::read(black_box(&files[k])));
+    };
+    let theirs = |k: usize| {
+        black_box(second::read(black_box(&files[k])));
+    };
+    measure(
+        &format!("read  {}", size.name),
+        Box::new(ours),
+        Box::new(theirs),
+    );
+}
+
+fn writing(size: &Size) {
+    let tables: Vec<face::Table> = size.tables.iter().map(face::Table::from).collect();
+    let mut ours_into = [0u8; LARGEST];
+    let mut theirs_into = [0u8; LARGEST];
+    let ours = |k: usize| {
+        black_box(face::write(
+            *black_box(&tables[k]),
+            black_box(&mut ours_into),
+        ));
+    };
+    let theirs = |k: usize| {
+        black_box(second::write(
+            black_box(&size.tables[k]),
+            black_box(&mut theirs_into),
+        ));
+    };
+    measure(
+        &format!("write {}", size.name),
+        Box::new(ours),
+        Box::new(theirs),
+    );
+}
+
+/// Prints a line: the best turn of each side, their ratio, and the median of the ratios of turns side by side.
+fn measure(name: &str, mut ours: Work, mut theirs: Work) {
+    let times = (TURN / turn(&mut ours, 1)).ceil() as usize;
+    let mut turns: Vec<(f64, f64)> = Vec::new();
+    for _ in 0..TURNS {
+        turns.push((turn(&mut ours, times), turn(&mut theirs, times)));
+    }
+    let done = (times * INPUTS) as f64;
+    let best = |side: fn(&(f64, f64)) -> f64| turns.iter().map(side).fold(f64::INFINITY, f64::min);
+    let (a, b) = (best(|t| t.0), best(|t| t.1));
+    let mut ratios: Vec<f64> = turns.iter().map(|t| t.1 / t.0).collect();
+    ratios.sort_by(f64::total_cmp);
+    println!(
+        "{name:<44}{:>16.0}{:>18.0}{:>8.2}{:>16.2}",
+        done / a,
+        done / b,
+        b / a,
+        ratios[TURNS / 2]
+    );
+}
+
+/// Seconds for all inputs, so many times.
+fn turn(work: &mut Work, times: usize) -> f64 {
+    let start = Instant::now();
+    for _ in 0..times {
+        for k in 0..INPUTS {
+            work(k);
+        }
+    }
+    start.elapsed().as_secs_f64()
+}
