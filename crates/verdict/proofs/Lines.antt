@@ -45,13 +45,16 @@ pub put-on : {buf l after : List ℕ} {at n : ℕ} → after ≡ laid buf at l �
 put-on {at = at} e q = record { holds = e; behind = ap (λ (k : ℕ). at + k) q }
 
 -- ---- bounds
-pub decimal-most : (x : ℕ) → length (decimal x) ≤ 20
+decimal-most : (x : ℕ) → length (decimal x) ≤ 20
 decimal-most x = decimal-length x .1
 
-pub signed-most : (z : ℤ) → length (signed z) ≤ 21
+signed-most : (z : ℤ) → length (signed z) ≤ 21
 unfolding signed
 signed-most (pos n) = omega (arith, decimal-most n)
 signed-most (negsuc n) = omega (arith, decimal-most (suc n))
+
+pub decimal-within : (n x : ℕ) → n ≡ length (decimal x) → n ≤ 20
+decimal-within n x e = omega (arith, decimal-most x)
 
 pub signed-within : (n : ℕ) (z : ℤ) → n ≡ length (signed z) → n ≤ 21
 signed-within n z e = omega (arith, signed-most z)

@@ -1,8 +1,6 @@
-use mathlib.Core.Path.{refl, ap, _∙_}
+use mathlib.Core.Path.{refl}
 use native.Mathlib.Omega.{arith}
-use lib.ListN.{length-append}
-use Rattle.text.specs.Text.{decimal}
-use Rattle.verdict.proofs.Lines.{put-then, put-on, decimal-most}
+use Rattle.verdict.proofs.Lines.{put-then, put-on, decimal-within}
 use borrow.Author.Needs.{needs}
 use Rattle.verdict.proofs.reporting.labelled.Statement.{statement}
 use Rattle.verdict.proofs.reporting.labelled.Tie as tie
@@ -17,7 +15,7 @@ put-decimal-requires : tie.Need-put-decimal-requires
 put-decimal-requires c κs = search needs
 
 add-result : tie.Need-add-result
-add-result c = omega (arith, decimal-most (c .before .before .before .before .before .before .before .before .before .before .args .x), c .before .before .put-decimal .ensures .1)
+add-result c = omega (arith, decimal-within _ _ (c .before .before .put-decimal .ensures .1))
 
 same-length : tie.Need-same-length
 same-length c = search needs
@@ -26,9 +24,8 @@ returns : tie.Need-returns
 returns c =
     let d = c .before .before in
     let w = d .before .before .before .before in
-    let a = w .before .before .before .before .args in
     let p = put-then (put-on (w .put-bytes .ensures) refl) (put-on (d .put-decimal .ensures .0) (d .put-decimal .ensures .1)) in
-    (p, omega (arith, decimal-most (a .x), p .behind, length-append (a .words .now) (decimal (a .x))))
+    (p, omega (arith, decimal-within _ _ (d .put-decimal .ensures .1)))
 
 pub labelled-spec : {M : Type 1} → statement M
 labelled-spec =

@@ -1,4 +1,4 @@
-use mathlib.Core.Path.{refl, ap, _∙_}
+use mathlib.Core.Path.{refl, ap}
 use mir.Facts.{toZ-ofZ}
 use native.Mathlib.Omega.{arith}
 use Rattle.text.specs.Text.{text, signed}
@@ -35,8 +35,7 @@ returns c =
     let s = e .before .before .before .before in
     let w = s .before .before .before .before in
     let z = ap signed (toZ-ofZ (w .before .before .before .before .fits .z)) in
-    let p = put-then (put-on (w .put-bytes .ensures) refl) (put-then (put-same (put-on (s .put-signed .ensures .0) (s .put-signed .ensures .1)) z) (e .ended .ensures)) in
-    p
+    put-then (put-on (w .put-bytes .ensures) refl) (put-then (put-same (put-on (s .put-signed .ensures .0) (s .put-signed .ensures .1)) z) (e .ended .ensures))
 
 pub with-margin-spec : {M : Type 1} → statement M
 with-margin-spec =
