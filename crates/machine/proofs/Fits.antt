@@ -24,7 +24,7 @@ use Rattle.machine.specs.States.{idle, activity, isLive, waitOf, deadlin
 use Rattle.machine.specs.Steps.{nothingLeft}
 use Rattle.machine.specs.Fitting.{zeroTaskIn, withinCost, wholeBehind, fitsLive, fitsIdle, fitsTask, fitsPhase, fits}
 use Rattle.machine.proofs.Clauses.{LiveFits, live-fits, within-of}
-use Rattle.machine.proofs.Open.{all-same, Behind, clear-bit}
+use Rattle.machine.proofs.Behind.{all-same, Behind, clear-bit}
 
 -- ---- a task of zeros
 module _ (x : Activity) (rest : Bool) where

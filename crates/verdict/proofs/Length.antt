@@ -33,18 +33,18 @@ fifteen (pos n) r = omega (arith, leb→le n 8000000 (r .high .le))
 fifteen (negsuc n) r = omega (arith, leb→le n 240000119999999 (r .low .le))
 
 -- ---- the lines
-lines : (k i c : ℕ) (f : ℕ → List ℕ) → ((j : ℕ) → j < i + k → length (f j) ≤ c) → length (joinFrom k i f) ≤ c * k
+pub lines : (k i c : ℕ) (f : ℕ → List ℕ) → ((j : ℕ) → j < i + k → length (f j) ≤ c) → length (joinFrom k i f) ≤ c * k
 unfolding joinFrom
 lines zero i c f h = omega arith
 lines (suc k) i c f h =
     simp length-append (omega (arith, h i (omega arith), lines k (suc i) c f (λ j b. h j (omega arith)), mul-suc c k))
 
 module _ (t : Table) (good : GoodTable t) where
-  head-most : length (headLine t) ≤ 22
+  pub head-most : length (headLine t) ≤ 22
   unfolding headLine text newline
   head-most = simp length-append (omega (arith, decimal-short 0 (t .m) (omega (arith, good .m-high)), decimal-short 1 (t .n) (omega (arith, good .n-high))))
 
-  task-most : (k : ℕ) → k < t .n → length (taskLine t k) ≤ 78
+  pub task-most : (k : ℕ) → k < t .n → length (taskLine t k) ≤ 78
   unfolding taskLine text newline
   task-most k b =
       let v = vol-high t good k b in

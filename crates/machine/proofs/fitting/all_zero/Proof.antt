@@ -8,7 +8,7 @@ use borrow.Author.Tests.{not-true, not-false}
 use Rattle.graph.specs.Words.{all}
 use Rattle.machine.specs.States.{idle}
 use Rattle.machine.specs.Fitting.{zeroTaskIn}
-use Rattle.machine.proofs.Open.{all-more, all-off, all-done}
+use Rattle.machine.proofs.Behind.{all-more, all-off, all-done}
 use Rattle.machine.proofs.Fits.{zero-in}
 use Rattle.machine.proofs.fitting.all_zero.Statement.{statement}
 use Rattle.machine.proofs.fitting.all_zero.Tie as tie

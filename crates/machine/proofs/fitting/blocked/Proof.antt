@@ -5,7 +5,7 @@ use Prim.Native.Nat.{ℕ, _-_, _≤_}
 use native.Mathlib.Omega.{arith}
 use borrow.Author.Needs.{needs}
 use Rattle.graph.specs.Words.{bit}
-use Rattle.machine.proofs.Open.{Behind, behind-none, behind-more, behind-same, behind-done}
+use Rattle.machine.proofs.Behind.{Behind, behind-none, behind-more, behind-same, behind-done}
 use Rattle.machine.proofs.fitting.blocked.Statement.{statement}
 use Rattle.machine.proofs.fitting.blocked.Tie as tie
 

@@ -8,7 +8,7 @@ use borrow.Author.Tests.{eq-eqb, ne-eqb}
 use lib.ListN.{getD}
 use lib.Dec.{eqb}
 use Rattle.graph.specs.Words.{all}
-use Rattle.machine.proofs.Open.{all-more, all-off, all-done}
+use Rattle.machine.proofs.Behind.{all-more, all-off, all-done}
 use Rattle.machine.proofs.fitting.nothing_left.Statement.{statement}
 use Rattle.machine.proofs.fitting.nothing_left.Tie as tie
 

@@ -9,7 +9,7 @@ use Rattle.graph.specs.Words.{all}
 use Rattle.table.specs.Memory.{noTask, task}
 use Rattle.machine.specs.States.{idle}
 use Rattle.machine.specs.Fitting.{fitsTask}
-use Rattle.machine.proofs.Open.{all-more, all-off, all-done}
+use Rattle.machine.proofs.Behind.{all-more, all-off, all-done}
 use Rattle.machine.proofs.Fits.{at-most-sixteen}
 use Rattle.machine.proofs.fitting.tasks_fit.Statement.{statement}
 use Rattle.machine.proofs.fitting.tasks_fit.Tie as tie

@@ -9,7 +9,7 @@ use borrow.Author.Tests.{eq-eqb, ne-eqb, eqb-true, eqb-false, not-true, not-fals
 use lib.ListN.{getD}
 use lib.Dec.{eqb}
 use Rattle.graph.specs.Words.{all, bit}
-use Rattle.machine.proofs.Open.{all-more, all-off, all-done, in-short, in-whole, not-in}
+use Rattle.machine.proofs.Behind.{all-more, all-off, all-done, in-short, in-whole, not-in}
 use Rattle.machine.proofs.fitting.whole_in.Statement.{statement}
 use Rattle.machine.proofs.fitting.whole_in.Tie as tie
 

@@ -8,7 +8,7 @@ use borrow.Author.Tests.{le-leb, lt-leb}
 use lib.ListN.{getD}
 use lib.Dec.{leb}
 use Rattle.graph.specs.Words.{all}
-use Rattle.machine.proofs.Open.{all-more, all-off, all-done}
+use Rattle.machine.proofs.Behind.{all-more, all-off, all-done}
 use Rattle.machine.proofs.fitting.within_cost.Statement.{statement}
 use Rattle.machine.proofs.fitting.within_cost.Tie as tie
 

@@ -1,0 +1,82 @@
+-- The report on a file, from its lines: what reading gave, zeros behind the text, a caller's buffer.
+use mathlib.Core.Path.{_≡_, sym, ap, ap₂, _∙_}
+use mathlib.Core.List.{List, _++_}
+use Prim.Native.Nat.{ℕ, zero, suc, _+_, _-_, _≤_, _<_}
+use native.Mathlib.Omega.{arith}
+use native.Mathlib.Nat.{sub-zero}
+use lib.ListN.{length, take, drop, replicate, length-append, length-replicate, length-take}
+use lib.Seq.{take-append-seam}
+use borrow.Author.Tests.{le-leb, lt-leb}
+use Rattle.text.specs.Laid.{laid}
+use Rattle.text.proofs.Laying.{laid-front}
+use Rattle.table.specs.declared.Outcome.the-variants.{Read}
+use Rattle.table.specs.declared.Loaded.{Loaded}
+use Rattle.table.specs.Reading.{read}
+use Rattle.table.proofs.PartLaws.{told-other, not-read}
+use Rattle.table.proofs.Prefix.{read-prefix}
+use Rattle.verdict.specs.declared.Report.{Report}
+use Rattle.verdict.specs.Report.{badLine, reportOn, reportRead, report, reported, reportInto, Put}
+use Rattle.verdict.proofs.Length.{report-most}
+use Rattle.verdict.proofs.Lines.{put-same}
+use Rattle.verdict.proofs.Judged.{good-read}
+
+-- ---- on what reading gave
+module _ (s : List ℕ) (l : Loaded) (h : l ≡ read s) where
+  pub put-stop : {buf after : List ℕ} {next : ℕ} → Put buf 0 (badLine (l .outcome)) after next → (l .outcome ≡ Read → ⊥) → Put buf 0 (report s) after next
+  unfolding report reportRead
+  put-stop p n = put-same p (rw (← h) (not-read (l .outcome) badLine _ n))
+
+  pub put-got : {buf after : List ℕ} {next : ℕ} → Put buf 0 (reportOn (l .table)) after next → l .outcome ≡ Read → Put buf 0 (report s) after next
+  unfolding report reportRead
+  put-got p e = put-same p (rw (← h, e))
+
+pub ruleset line-laws = (told-other, good-read, put-stop, put-got)
+
+-- ---- zeros behind the text
+drop-zeros : (n m : ℕ) → drop {A = ℕ} n (replicate m 0) ≡ replicate (m - n) 0
+drop-zeros zero m = ap (λ (k : ℕ). replicate {A = ℕ} k 0) (sym (sub-zero m))
+drop-zeros (suc n) zero = let e : 0 ≡ 0 - suc n = omega arith in ap (λ (k : ℕ). replicate {A = ℕ} k 0) e
+drop-zeros (suc n) (suc m) = let e : m - n ≡ suc m - suc n = omega arith in drop-zeros n m ∙ ap (λ (k : ℕ). replicate {A = ℕ} k 0) e
+
+zeros-behind : (m : ℕ) (l : List ℕ) → length l ≤ m → laid (replicate m 0) 0 l ≡ l ++ replicate (m - length l) 0
+zeros-behind m l h = laid-front (replicate m 0) l (omega (arith, length-replicate {A = ℕ} m 0)) ∙ ap (λ (x : List ℕ). l ++ x) (drop-zeros (length l) m)
+
+pub report-put : (s after : List ℕ) (next : ℕ) → Put (replicate 2048 0) 0 (report s) after next → (record { bytes = after; len = next }) ≡ reported s
+unfolding reported
+report-put s after next p =
+    let n : next ≡ length (report s) = omega (arith, p .behind) in
+    ap₂ (λ (b : List ℕ) (k : ℕ). record { bytes = b; len = k }) (p .holds ∙ zeros-behind 2048 (report s) (omega (arith, report-most s))) n
+
+-- ---- a report in memory
+module _ (s : List ℕ) (r : Report) (h : r ≡ reported s) where
+  pub report-len : r .len ≡ length (report s)
+  unfolding reported
+  report-len = ap (λ (x : Report). x .len) h
+
+  pub report-long : length (r .bytes) ≡ 2048
+  unfolding reported
+  report-long =
+      ap (λ (x : Report). length (x .bytes)) h ∙ length-append (report s) (replicate (2048 - length (report s)) 0)
+      ∙ omega (arith, length-replicate {A = ℕ} (2048 - length (report s)) 0, report-most s)
+
+  pub report-within : r .len ≤ 1312
+  report-within = omega (arith, report-len, report-most s)
+
+  -- its first bytes are the text
+  pub report-text : take (r .len) (r .bytes) ≡ report s
+  unfolding reported
+  report-text = rw h (take-append-seam (report s) (replicate (2048 - length (report s)) 0))
+
+-- ---- a caller's buffer
+pub into-short : (s buf : List ℕ) → length buf < length (report s) → buf ≡ reportInto s buf
+unfolding reportInto
+into-short s buf h = rw (lt-leb (length (report s)) (length buf) h)
+
+pub into-fits : (s buf : List ℕ) → length (report s) ≤ length buf → laid buf 0 (report s) ≡ reportInto s buf
+unfolding reportInto
+into-fits s buf h = laid-front buf (report s) h ∙ rw (le-leb (length (report s)) (length buf) h)
+
+-- "The report program reads a table from standard input": the first 5,061 bytes are enough
+pub report-prefix : (s : List ℕ) → report (take 5061 s) ≡ report s
+unfolding report
+report-prefix s = ap reportRead (read-prefix s)

@@ -1,0 +1,51 @@
+use mathlib.Core.Path.{ap}
+use mathlib.Core.List.{_++_, append-assoc}
+use lib.IntN.{ℤ}
+use mir.Syntax.{w64}
+use mir.Facts.{toZ-ofZ}
+use Rattle.text.specs.Text.{text, newline, signed}
+use Rattle.verdict.specs.Report.{lastLine}
+use Rattle.verdict.proofs.Lines.{put-then, put-same}
+use borrow.Author.Needs.{needs}
+use Rattle.verdict.proofs.reporting.last_line.Statement.{statement}
+use Rattle.verdict.proofs.reporting.last_line.Tie as tie
+
+answer-requires : tie.Need-answer-requires
+answer-requires c κs = search needs
+
+slice-aggregate-labelled : tie.Need-slice-aggregate-labelled
+slice-aggregate-labelled c = search needs
+
+cast-labelled : tie.Need-cast-labelled
+cast-labelled c = search needs
+
+labelled-requires : tie.Need-labelled-requires
+labelled-requires c κs = search needs
+
+with-margin-requires : tie.Need-with-margin-requires
+with-margin-requires c κs = search needs
+
+same-length : tie.Need-same-length
+same-length c = search needs
+
+returns : tie.Need-returns
+unfolding lastLine text
+returns c =
+    let e = c .before .before in
+    let q = e .before .before .before .before .before in
+    let p = q .before .before .before .before .before .before in
+    let z = ap (λ (y : ℤ). text " margin " ++ signed y ++ newline) (toZ-ofZ {w = w64} {z = p .before .before .before .args .v .margin} (record { sfits = e .before .struct-told .given .1 .1 .1 .0 .1 })) in
+    let r = put-then (p .answer .ensures .0) (put-then (q .labelled .ensures .0) (put-same (e .with-margin .ensures) z)) in
+    put-same r (simp append-assoc)
+
+pub last-line-spec : {M : Type 1} → statement M
+last-line-spec =
+    tie.close
+    (tie.spec
+    answer-requires
+    slice-aggregate-labelled
+    cast-labelled
+    labelled-requires
+    with-margin-requires
+    same-length
+    returns)

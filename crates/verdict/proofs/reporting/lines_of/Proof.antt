@@ -1,0 +1,41 @@
+use Rattle.verdict.proofs.Reported.{line-laws}
+use borrow.Author.Needs.{needs}
+use Rattle.verdict.proofs.reporting.lines_of.Statement.{statement}
+use Rattle.verdict.proofs.reporting.lines_of.Tie as tie
+
+read-requires : tie.Need-read-requires
+read-requires c κs = search needs
+
+enum-told : tie.Need-enum-told
+enum-told c = search needs
+
+bad-line-requires : tie.Need-bad-line-requires
+bad-line-requires c κs = search needs
+
+same-length : tie.Need-same-length
+same-length c = search needs
+
+returns : tie.Need-returns
+returns c = search line-laws
+
+table-lines-requires : tie.Need-table-lines-requires
+table-lines-requires c κs = search line-laws
+
+same-length-2 : tie.Need-same-length-2
+same-length-2 c = search needs
+
+returns-2 : tie.Need-returns-2
+returns-2 c = search line-laws
+
+pub lines-of-spec : {M : Type 1} → statement M
+lines-of-spec =
+    tie.close
+    (tie.spec
+    read-requires
+    enum-told
+    bad-line-requires
+    same-length
+    returns
+    table-lines-requires
+    same-length-2
+    returns-2)

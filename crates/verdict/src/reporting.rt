@@ -1,0 +1,177 @@
+// The report's text, line by line, into a lent buffer: document 01, "Examples by hand".
+ghost use mathlib.Core.Path.{_≡_};
+ghost use mathlib.Core.List.{_++_};
+ghost use Prim.Native.Nat.{ℕ, _+_, _≤_, _<_};
+ghost use lib.Dec.{eqb};
+ghost use lib.ListN.{length, getD};
+ghost use Rattle.graph.specs.Words.{pick, inOrder};
+ghost use Rattle.text.specs.Text.{text, newline, decimal, signed};
+ghost use Rattle.table.specs.Memory.{T};
+ghost use Rattle.table.specs.Good.{GoodTable};
+ghost use Rattle.verdict.specs.Verdicts.{vol};
+ghost use Rattle.verdict.specs.Report.{Put, headLine, taskLine, lastLine, badLine, reportOn, report, reported, reportInto};
+use crate::Report;
+use crate::Verdict;
+use crate::figuring;
+use crate::judging;
+use table::Outcome;
+use table::Table;
+
+// Some words and a number; the place after them.
+fn labelled(out: &mut [u8], at: usize, words: &[u8], x: u64) -> usize
+    requires { ⌜ (at ≤ 4096) × (length (now words) ≤ 20) ⌝ }
+    ensures { λ r. ⌜ Put (now (out .entry)) at (now (words .entry) ++ decimal x) (now (out .exit)) r × (r ≤ at + 40) ⌝ }
+{
+    text::put_bytes(&mut *out, at, words);
+    let p = at + words.len();
+    p + text::put_decimal(&mut *out, p, x)
+}
+
+// A line's end: byte 10.
+fn ended(out: &mut [u8], at: usize) -> usize
+    requires { ⌜ at ≤ 4096 ⌝ }
+    ensures { λ r. ⌜ Put (now (out .entry)) at newline (now (out .exit)) r ⌝ }
+{
+    text::put_byte(&mut *out, at, 10);
+    at + 1
+}
+
+// A margin, and the line's end.
+fn with_margin(out: &mut [u8], at: usize, z: i64) -> usize
+    requires { ⌜ at ≤ 2048 ⌝ }
+    ensures { λ r. ⌜ Put (now (out .entry)) at (text " margin " ++ signed z ++ newline) (now (out .exit)) r ⌝ }
+{
+    text::put_bytes(&mut *out, at, b" margin ");
+    let p = at + 8;
+    let q = p + text::put_signed(&mut *out, p, z);
+    ended(&mut *out, q)
+}
+
+// What a table says first: its processors and its tasks.
+fn head_line(out: &mut [u8], t: Table) -> usize
+    ensures { λ r. ⌜ Put (now (out .entry)) 0 (headLine t) (now (out .exit)) r ⌝ }
+{
+    let p = labelled(&mut *out, 0, b"processors ", t.m as u64);
+    let q = labelled(&mut *out, p, b" tasks ", t.n as u64);
+    ended(&mut *out, q)
+}
+
+// A line of a good table's task k, by the periods and the vols of all.
+fn task_line(
+    out: &mut [u8],
+    at: usize,
+    t: Table,
+    times: [u32; 16],
+    vols: [u64; 16],
+    k: usize,
+) -> usize
+    requires { ⌜ (at ≤ 1312) × GoodTable t × (k < t .n) × ((i : ℕ) → i < t .n → getD times i 0 ≡ T t i) × ((i : ℕ) → i < t .n → getD vols i 0 ≡ vol t i) ⌝ }
+    ensures { λ r. ⌜ Put (now (out .entry)) at (taskLine t k) (now (out .exit)) r ⌝ }
+{
+    let f = judging::figures_on(t, times, vols, k);
+    let a = labelled(&mut *out, at, b"task ", k as u64);
+    let b = labelled(&mut *out, a, b" vol ", f.vol);
+    let c = labelled(&mut *out, b, b" len ", f.len);
+    let d = labelled(&mut *out, c, b" due ", f.due);
+    with_margin(&mut *out, d, f.margin)
+}
+
+// The lines of its tasks.
+fn task_lines(out: &mut [u8], at: usize, t: Table) -> usize
+    requires { ⌜ (at ≤ 22) × GoodTable t ⌝ }
+    ensures { λ r. ⌜ Put (now (out .entry)) at (inOrder (t .n) (taskLine t)) (now (out .exit)) r ⌝ }
+{
+    let vols = figuring::volumes(t);
+    let times = figuring::periods(t);
+    let n = t.n as usize;
+    let mut p = at;
+    let mut k: usize = 0;
+    while k < n {
+        p = task_line(&mut *out, p, t, times, vols, k);
+        k += 1;
+    }
+    p
+}
+
+// The verdict's first words.
+fn answer(out: &mut [u8], at: usize, number: u8) -> usize
+    requires { ⌜ at ≤ 1312 ⌝ }
+    ensures { λ r. ⌜ Put (now (out .entry)) at (pick (eqb number 0) (text "accept") (text "refuse " ++ decimal number)) (now (out .exit)) r × (r ≤ at + 40) ⌝ }
+{
+    if number == 0 {
+        text::put_bytes(&mut *out, at, b"accept");
+        return at + 6;
+    }
+    labelled(&mut *out, at, b"refuse ", number as u64)
+}
+
+// The verdict's line.
+fn last_line(out: &mut [u8], at: usize, v: Verdict) -> usize
+    requires { ⌜ at ≤ 1312 ⌝ }
+    ensures { λ r. ⌜ Put (now (out .entry)) at (lastLine v) (now (out .exit)) r ⌝ }
+{
+    let p = answer(&mut *out, at, v.number);
+    let q = labelled(&mut *out, p, b" task ", v.task as u64);
+    with_margin(&mut *out, q, v.margin)
+}
+
+// The one line of a file that reading refuses.
+fn bad_line(out: &mut [u8], o: Outcome) -> usize
+    ensures { λ r. ⌜ Put (now (out .entry)) 0 (badLine o) (now (out .exit)) r ⌝ }
+{
+    let number = table::number(o);
+    let place = table::place(o);
+    let p = labelled(&mut *out, 0, b"unreadable ", number as u64);
+    let q = labelled(&mut *out, p, b" at ", place as u64);
+    ended(&mut *out, q)
+}
+
+// The lines of a good table.
+fn table_lines(out: &mut [u8], t: Table) -> usize
+    requires { ⌜ GoodTable t ⌝ }
+    ensures { λ r. ⌜ Put (now (out .entry)) 0 (reportOn t) (now (out .exit)) r ⌝ }
+{
+    let p = head_line(&mut *out, t);
+    let q = task_lines(&mut *out, p, t);
+    let v = judging::verdict_on(t);
+    last_line(&mut *out, q, v)
+}
+
+// The lines of a file.
+fn lines_of(bytes: &[u8], out: &mut [u8]) -> usize
+    ensures { λ r. ⌜ Put (now (out .entry)) 0 (report (now (bytes .entry))) (now (out .exit)) r ⌝ }
+{
+    let l = table::read(bytes);
+    let o = l.outcome;
+    let Outcome::Read = o else {
+        return bad_line(&mut *out, o);
+    };
+    let t = l.table;
+    table_lines(&mut *out, t)
+}
+
+// The report on a file: its text, and zeros behind it.
+pub fn report_of(bytes: &[u8]) -> Report
+    ensures { λ r. ⌜ r ≡ reported (now (bytes .entry)) ⌝ }
+{
+    let mut out = [0u8; 2048];
+    let len = lines_of(bytes, &mut out);
+    Report {
+        bytes: out,
+        len: len,
+    }
+}
+
+// The report on a file at the front of a caller's buffer, if it fits there; its length.
+pub fn report_into(bytes: &[u8], out: &mut [u8]) -> usize
+    ensures { λ r. ⌜ (r ≡ length (report (now (bytes .entry)))) × (now (out .exit) ≡ reportInto (now (bytes .entry)) (now (out .entry))) ⌝ }
+{
+    let r = report_of(bytes);
+    let len = r.len;
+    if out.len() < len {
+        return len;
+    }
+    let words = r.bytes;
+    text::put_bytes(&mut *out, 0, &words[..len]);
+    len
+}
