@@ -1,18 +1,16 @@
 -- A field at a place, from what stands there: the reader's test of a number is the test of the number that was put there.
-use mathlib.Core.Path.{_≡_, refl, sym, ap, _∙_}
-use mathlib.Core.Bool.{Bool, true, false, _&&_, not, and-true}
-use mathlib.Core.List.{List, [], _∷_, _++_}
-use Prim.Native.Nat.{ℕ, zero, suc, _+_, _*_, _/_, _%_, _^_, _≤_, _<_}
+use mathlib.Core.Path.{_≡_, sym, ap, _∙_}
+use mathlib.Core.Bool.{_&&_, not, and-true}
+use mathlib.Core.List.{List, _∷_, _++_}
+use Prim.Native.Nat.{ℕ, suc, _+_, _*_, _/_, _%_, _^_, _≤_, _<_}
 use native.Mathlib.Omega.{arith}
 use native.Mathlib.Nat.{add-zero}
 use lib.ListN.{length, getD, drop, length-drop}
 use lib.Seq.{drop-drop, getD-drop}
-use lib.Dec.{ltb, leb, eqb}
+use lib.Dec.{ltb, eqb}
 use borrow.Author.Tests.{le-leb, lt-ltb, eq-eqb}
-use Rattle.table.specs.declared.Outcome.the-variants.{Range, Ticks, Edge}
-use Rattle.table.specs.declared.Field.{Field}
-use Rattle.table.specs.declared.Field.the-variants.{Stop, Got}
-use Rattle.graph.specs.Words.{pick}
+use Rattle.table.specs.declared.Outcome.the-variants.{Range, Ticks}
+use Rattle.table.specs.declared.Field.the-variants.{Got}
 use Rattle.table.specs.Reading.{field, markAt, ranged, byteAt, value4, ticksAt, edgeOk, edgeAt}
 use Rattle.table.specs.Writing.{bytes4}
 use Rattle.table.specs.Checking.{edgeTested}

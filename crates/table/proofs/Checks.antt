@@ -2,34 +2,31 @@
 use mathlib.Core.Path.{_≡_, refl, sym, ap, _∙_}
 use mathlib.Core.Bool.{Bool, true, false, _&&_, not}
 use mathlib.Core.List.{List, [], _∷_, _++_, append-assoc, append-nil}
-use Prim.Native.Nat.{ℕ, zero, suc, _+_, _*_, _/_, _%_, _^_, _≤_, _<_}
+use Prim.Native.Nat.{ℕ, zero, suc, _+_, _*_, _/_, _%_, _≤_}
 use native.Mathlib.Omega.{arith}
 use native.Mathlib.Numerals.{add-one}
 use native.Mathlib.Nat.{add-zero}
-use lib.ListN.{length, getD, drop, set, length-append}
+use lib.ListN.{length, drop, set, length-append}
 use lib.Seq.{drop-drop, drop-append-seam}
 use lib.Dec.{ltb, leb, eqb}
 use borrow.Author.Tests.{leb-true, eq-eqb}
-use Rattle.table.specs.declared.Task.{Task}
+use Rattle.graph.specs.Words.{pick, joinFrom, inOrder}
+use Rattle.graph.specs.Graph.{acyclic}
+use Rattle.graph.proofs.Facts.{clash, both-true}
 use Rattle.table.specs.declared.Table.{Table}
 use Rattle.table.specs.declared.Outcome.{Outcome}
 use Rattle.table.specs.declared.Outcome.the-variants.{Read, Short, Mark, Range, Ticks, Order, Edge, Cycle, Extra}
 use Rattle.table.specs.declared.Field.{Field}
 use Rattle.table.specs.declared.Field.the-variants.{Stop, Got}
-use Rattle.table.specs.declared.CostsRead.{CostsRead}
 use Rattle.table.specs.declared.EdgesRead.{EdgesRead}
 use Rattle.table.specs.declared.TaskRead.{TaskRead}
 use Rattle.table.specs.declared.TableRead.{TableRead}
-use Rattle.table.specs.declared.Loaded.{Loaded}
 use Rattle.table.specs.declared.Checked.{Checked}
-use Rattle.graph.specs.Words.{pick, joinFrom, inOrder}
-use Rattle.graph.specs.Graph.{acyclic}
-use Rattle.graph.proofs.Facts.{clash, both-true}
 use Rattle.table.specs.Memory.{noSucc, noCosts, noTasks, noRow, task, vertices, D, T, succ, cost}
-use Rattle.table.specs.Reading.{onward, whenRead, markAt, ranged, byteAt, ticksAt, notUnder, periodAt, edgeAt, costsAt, addEdge, edgesAt, badTask, partsAt, taskAt, badTable, withTask, tasksAt, tableAt, refused, ending, read}
+use Rattle.table.specs.Reading.{onward, whenRead, ranged, notUnder, periodAt, costsAt, addEdge, edgesAt, badTask, partsAt, taskAt, badTable, withTask, tasksAt, tableAt, refused, ending, read}
 use Rattle.table.specs.Writing.{bytes4, edgeKeys, edgeBytes, encodeTask, encode}
 use Rattle.table.specs.Checking.{Typed, stopped, keysOf, edgeTested, edgesTested, costsTested, usedRows, partsTested, taskTested, tasksTested, checked}
-use Rattle.table.proofs.Cells.{cell, cell-next, at-eq, mark-as, byte-as, ticks-as, four-next, edge-as}
+use Rattle.table.proofs.Cells.{at-eq, mark-as, byte-as, ticks-as, four-next, edge-as}
 use Rattle.table.proofs.Keys.{Asc, keys-asc, keys-are}
 use Rattle.table.proofs.Rows.{addAll, rows-of-keys}
 

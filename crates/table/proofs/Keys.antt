@@ -2,18 +2,17 @@
 use mathlib.Core.Path.{_≡_, refl, sym, ap, _∙_}
 use mathlib.Core.Bool.{Bool, true, false}
 use mathlib.Core.List.{List, [], _∷_, _++_}
-use Prim.Native.Nat.{ℕ, zero, suc, _+_, _*_, _-_, _/_, _%_, _^_, _≤_, _<_}
+use Prim.Native.Nat.{ℕ, zero, suc, _+_, _*_, _/_, _%_, _^_, _≤_, _<_}
 use native.Mathlib.Omega.{arith}
-use native.Mathlib.Numerals.{add-one, one-add}
+use native.Mathlib.Numerals.{one-add}
 use native.Mathlib.Nat.{add-zero, zero-add, div-one}
-use lib.ListN.{length, getD, length-append}
+use lib.ListN.{length, getD}
 use lib.Dec.{eqb}
 use lib.Count.{ones, ones-step}
 use lib.Pow.{shr-shr}
-use borrow.Author.Tests.{eqb-true, eqb-false}
-use Rattle.table.specs.declared.Table.{Table}
 use Rattle.graph.specs.Words.{bit, rowFrom, row, alsoIf, those, thoseBelow, joinFrom, inOrder}
 use Rattle.graph.specs.Graph.{edge}
+use Rattle.table.specs.declared.Table.{Table}
 use Rattle.table.specs.Memory.{vertices, succ, edgeIn}
 use Rattle.table.specs.Writing.{edgeKeys}
 use Rattle.table.specs.Checking.{rowKeys, keysOf}

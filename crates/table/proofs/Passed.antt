@@ -1,5 +1,5 @@
 -- A table that the tests 3 to 7 let through: its counts are in their ranges.
-use mathlib.Core.Path.{_≡_, refl, sym, ap, _∙_}
+use mathlib.Core.Path.{_≡_, refl}
 use mathlib.Core.Bool.{Bool, true, false, _&&_}
 use Prim.Native.Nat.{ℕ, zero, suc, _+_, _*_, _≤_, _<_}
 use native.Mathlib.Omega.{arith}
@@ -7,15 +7,15 @@ use native.Mathlib.Decide.{ℕ-discrete}
 use lib.ListN.{length}
 use lib.Dec.{leb}
 use borrow.Author.Tests.{leb-true}
+use Rattle.graph.specs.Words.{pick}
+use Rattle.graph.proofs.Facts.{both-true}
 use Rattle.table.specs.declared.Task.{Task}
 use Rattle.table.specs.declared.Table.{Table}
 use Rattle.table.specs.declared.Outcome.{Outcome}
 use Rattle.table.specs.declared.Outcome.the-variants.{Read, Short, Mark, Range, Ticks, Order, Edge, Cycle, Extra}
 use Rattle.table.specs.declared.Field.the-variants.{Stop, Got}
 use Rattle.table.specs.declared.Checked.{Checked}
-use Rattle.graph.specs.Words.{pick}
-use Rattle.graph.proofs.Facts.{both-true}
-use Rattle.table.specs.Memory.{task, vertices, succ}
+use Rattle.table.specs.Memory.{task, succ}
 use Rattle.table.specs.Reading.{onward, whenRead, ranged}
 use Rattle.table.specs.Checking.{stopped, keysOf, taskTested, tasksTested, checked}
 use Rattle.table.proofs.Checks.{range-bad}

@@ -1,24 +1,22 @@
 -- Laws of bytes that are put into a buffer part after part, for the writer's code.
 use mathlib.Core.Path.{_≡_, refl, sym, ap, _∙_}
-use mathlib.Core.Bool.{Bool, true, false}
 use mathlib.Core.List.{List, [], _∷_, _++_, append-assoc}
 use Prim.Native.Nat.{ℕ, zero, suc, _+_, _*_, _-_, _/_, _%_, _^_, _≤_, _<_}
 use native.Mathlib.Omega.{arith}
 use native.Mathlib.Numerals.{add-one}
 use native.Mathlib.Nat.{add-zero, div-one, sub-zero}
-use lib.ListN.{length, getD, set, drop, take, length-append}
-use lib.Seq.{sets, sets-eq, length-sets}
+use lib.ListN.{length, getD, set, drop, length-append}
+use lib.Seq.{sets, sets-eq}
 use lib.Count.{trailingZeros, under}
 use lib.Pow.{shr-shr, pow-mono}
-use lib.Dec.{eqb}
+use Rattle.graph.specs.Words.{alsoIf, joinFrom, inOrder}
 use Rattle.table.specs.declared.Task.{Task}
 use Rattle.table.specs.declared.Table.{Table}
-use Rattle.graph.specs.Words.{alsoIf, joinFrom, inOrder}
 use Rattle.table.specs.Memory.{task, vertices, D, T, succ, cost}
-use Rattle.table.specs.Writing.{bytes4, edgeKeys, edgeBytes, encodeTask, encode}
+use Rattle.table.specs.Writing.{bytes4, edgeBytes, encodeTask, encode}
 use Rattle.table.specs.Checking.{rowKeys, keysOf, costBytes, taskBytes}
 use Rattle.table.proofs.Keys.{keys-are}
-use Rattle.table.proofs.TestLaws.{join-next, join-end, keysFrom, keys-start, keys-next, keys-end}
+use Rattle.table.proofs.TestLaws.{join-next, join-end, keysFrom, keys-next}
 
 -- ---- part after part
 pub sets-sets : (xs ys l : List ℕ) (i : ℕ) → sets l i (xs ++ ys) ≡ sets (sets l i xs) (i + length xs) ys

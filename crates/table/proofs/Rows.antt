@@ -11,9 +11,9 @@ use lib.ListN.{length, getD, length-set}
 use lib.Seq.{ext-getD, getD-set-same, getD-set-other}
 use lib.Bits.{bitOr, or-lt}
 use lib.Pow.{pow-lt, pow-pos, shr-shr}
-use lib.Dec.{ltb, eqb}
+use lib.Dec.{ltb}
 use borrow.Author.Tests.{lt-ltb, le-ltb, eq-eqb, eqb-true}
-use Rattle.graph.specs.Words.{pick, bit, row, thoseBelow, isIn}
+use Rattle.graph.specs.Words.{pick, bit, isIn}
 use Rattle.graph.specs.Graph.{edge}
 use Rattle.graph.proofs.Facts.{clash, first-in, other-in, tail-in, below-pass, below-all, length-row, row-at, row-past}
 use Rattle.table.specs.Memory.{noSucc}

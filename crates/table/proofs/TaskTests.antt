@@ -2,22 +2,19 @@
 use mathlib.Core.Path.{_≡_, refl, sym, ap, _∙_}
 use mathlib.Core.Bool.{Bool, true, false, _&&_}
 use mathlib.Core.List.{List}
-use Prim.Native.Nat.{ℕ, zero, suc, _+_, _*_, _-_, _≤_, _<_}
+use Prim.Native.Nat.{ℕ, suc, _+_, _*_, _≤_, _<_}
 use native.Mathlib.Omega.{arith}
-use native.Mathlib.Numerals.{add-one}
 use lib.ListN.{length}
 use lib.Dec.{leb}
 use borrow.Author.Tests.{le-leb, lt-leb, leb-true}
+use Rattle.graph.specs.Words.{pick}
+use Rattle.graph.specs.Graph.{acyclic}
 use Rattle.table.specs.declared.Task.{Task}
 use Rattle.table.specs.declared.Table.{Table}
 use Rattle.table.specs.declared.Outcome.{Outcome}
 use Rattle.table.specs.declared.Outcome.the-variants.{Read, Short, Mark, Range, Ticks, Order, Edge, Cycle, Extra}
-use Rattle.table.specs.declared.Field.{Field}
 use Rattle.table.specs.declared.Field.the-variants.{Stop, Got}
 use Rattle.table.specs.declared.Checked.{Checked}
-use Rattle.graph.specs.Words.{pick}
-use Rattle.graph.specs.Graph.{acyclic}
-use Rattle.graph.proofs.Facts.{both-true}
 use Rattle.table.specs.Memory.{task}
 use Rattle.table.specs.Reading.{onward, whenRead, ranged, notUnder}
 use Rattle.table.specs.Checking.{stopped, keysOf, edgesTested, costsTested, usedRows, partsTested, taskTested, tasksTested, checked}

@@ -12,14 +12,13 @@ use lib.Seq.{ext-getD, getD-set-same, getD-set-other}
 use lib.Pow.{pow-pos, pow-mono}
 use lib.Dec.{ltb, leb, eqb}
 use borrow.Author.Tests.{eqb-true, lt-leb, le-leb, lt-ltb, le-ltb, eq-eqb, ne-eqb}
-use Rattle.table.specs.declared.Outcome.{Outcome}
-use Rattle.table.specs.declared.Outcome.the-variants.{Read, Range, Ticks, Edge, Cycle}
-use Rattle.table.specs.declared.Field.{Field}
-use Rattle.table.specs.declared.Field.the-variants.{Stop, Got}
-use Rattle.table.specs.declared.Checked.{Checked}
 use Rattle.graph.specs.Words.{pick, bit, rowFrom, row, alsoIf, joinFrom, inOrder}
 use Rattle.graph.proofs.Facts.{length-row, row-at}
-use Rattle.table.specs.Reading.{onward, whenRead, ranged, notUnder}
+use Rattle.table.specs.declared.Outcome.{Outcome}
+use Rattle.table.specs.declared.Outcome.the-variants.{Read, Ticks, Edge}
+use Rattle.table.specs.declared.Field.the-variants.{Stop, Got}
+use Rattle.table.specs.declared.Checked.{Checked}
+use Rattle.table.specs.Reading.{onward, whenRead, ranged}
 use Rattle.table.specs.Checking.{stopped, rowKeys, keysOf, edgeTested, edgesTested, costsTested, usedRows}
 use Rattle.table.proofs.Keys.{bit-low, bit-up}
 

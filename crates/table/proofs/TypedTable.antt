@@ -1,7 +1,7 @@
 -- The numbers of a table that a function was handed are numbers of their types.
+use mathlib.Core.List.{List, [], _∷_, map}
 use Prim.Native.Nat.{ℕ, zero, suc, _+_, _*_, _^_, _<_}
 use native.Mathlib.Omega.{arith}
-use mathlib.Core.List.{List, [], _∷_, map}
 use lib.ListN.{getD}
 use mir.Val.{Val, Fits}
 use mir.Syntax.{w16, w32}
@@ -10,10 +10,10 @@ use denote.Array.{each}
 use borrow.Author.Needs.{elem-fits-field}
 use Rattle.table.specs.declared.Task.{Task}
 use Rattle.table.specs.declared.Table.{Table}
-use Rattle.table.proofs.Task as task-type
-use Rattle.table.proofs.Table as table-type
 use Rattle.table.specs.Memory.{noTask, task, D, T, succ, cost}
 use Rattle.table.specs.Checking.{Typed}
+use Rattle.table.proofs.Task as task-type
+use Rattle.table.proofs.Table as table-type
 
 record Fit (a : Task) : Type 0 where
   d-fits : a .d < 2 ^ 32

@@ -1,17 +1,16 @@
 -- The test of unused entries, entry by entry.
-use mathlib.Core.Path.{_≡_, refl, sym, ap, _∙_}
-use mathlib.Core.Bool.{Bool, true, false, _&&_, _||_, and-false, or-false}
+use mathlib.Core.Path.{_≡_, refl, sym, ap}
+use mathlib.Core.Bool.{Bool, true, false, _&&_, _||_, and-false}
 use mathlib.Core.List.{List}
 use Prim.Native.Nat.{ℕ, zero, suc, _+_, _*_, _≤_, _<_}
 use native.Mathlib.Omega.{arith}
-use native.Mathlib.Decide.{decLt}
 use lib.ListN.{getD}
 use lib.Dec.{ltb, eqb}
 use borrow.Author.Tests.{lt-ltb, le-ltb, eq-eqb, ne-eqb}
-use Rattle.table.specs.declared.Task.{Task}
-use Rattle.table.specs.declared.Table.{Table}
 use Rattle.graph.specs.Words.{pick, all}
 use Rattle.graph.proofs.Facts.{clash, all-at, all-of, off-when}
+use Rattle.table.specs.declared.Task.{Task}
+use Rattle.table.specs.declared.Table.{Table}
 use Rattle.table.specs.Memory.{task, vertices, D, T, succ, cost}
 use Rattle.table.specs.Writing.{zeroVertex, zeroEntry, unusedZero}
 use Rattle.table.specs.Checking.{zeroFrom, unusedIn}

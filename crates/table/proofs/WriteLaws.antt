@@ -1,10 +1,9 @@
 -- What writing answers and leaves in the buffer, from the tests on the table itself.
-use mathlib.Core.Path.{_≡_, refl, sym, ap, _∙_}
-use mathlib.Core.Bool.{Bool, true, false}
+use mathlib.Core.Path.{_≡_, sym, ap, _∙_}
+use mathlib.Core.Bool.{true, false}
 use mathlib.Core.List.{List, _++_}
 use Prim.Native.Nat.{ℕ, _≤_, _<_}
 use lib.ListN.{length, drop}
-use lib.Dec.{leb}
 use lib.Seq.{sets}
 use borrow.Author.Tests.{le-leb, lt-leb}
 use Rattle.table.specs.declared.Table.{Table}
@@ -12,8 +11,7 @@ use Rattle.table.specs.declared.Outcome.{Outcome}
 use Rattle.table.specs.declared.Outcome.the-variants.{Read}
 use Rattle.table.specs.declared.Written.{Written}
 use Rattle.table.specs.declared.Written.the-variants.{Done, Refused, Unused, Room}
-use Rattle.graph.specs.Words.{pick}
-use Rattle.table.specs.Reading.{whenRead, read}
+use Rattle.table.specs.Reading.{read}
 use Rattle.table.specs.Writing.{encode, unusedZero, writing, frontOf, written}
 use Rattle.table.specs.Checking.{Typed, checked}
 use Rattle.table.proofs.Otherwise.{NotRead, otherwise}

@@ -63,8 +63,9 @@ fn put_row(buffer: &mut [u8], at: usize, u: u8, bits: u16) -> usize
     while x != 0 {
         let z = u16::trailing_zeros(x);
         w += z;
+        let to = (w % 256) as u8;
         buffer[p] = u;
-        buffer[p + 1] = (w % 256) as u8;
+        buffer[p + 1] = to;
         p += 2;
         x = (x >> z) / 2;
         w += 1;

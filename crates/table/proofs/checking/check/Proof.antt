@@ -1,59 +1,45 @@
-use Rattle.table.proofs.TaskTests.{m-under, m-over, n-under, n-over, then-tasks}
+use mathlib.Core.Path.{_∙_}
 use native.Mathlib.Omega.{arith}
-use mathlib.Core.Path.{_≡_, refl, sym, ap, _∙_}
 use borrow.Author.Needs.{needs}
+use Rattle.table.proofs.TaskTests.{m-under, m-over, n-under, n-over, then-tasks}
 use Rattle.table.proofs.checking.check.Statement.{statement}
 use Rattle.table.proofs.checking.check.Tie as tie
-use Rattle.table.proofs.checking.check.Reads as reads
-use Rattle.table.proofs.checking.check.Lts as lts
-use Rattle.table.proofs.checking.check_tasks.Reads as check-tasks-reads
-use Rattle.table.proofs.checking.stop.Reads as stop-reads
 
--- src/checking.rt:233:9
 stop-requires : tie.Need-stop-requires
 stop-requires c κs = search needs
 
--- src/checking.rt:233:9
 returns : tie.Need-returns
 returns c =
     let a = c .before .before .before .args in
     c .stop .ensures ∙ m-under (a .table) (omega arith)
 
--- src/checking.rt:236:9
 stop-requires-2 : tie.Need-stop-requires-2
 stop-requires-2 c κs = search needs
 
--- src/checking.rt:236:9
 returns-2 : tie.Need-returns-2
 returns-2 c =
     let a = c .before .before .before .before .before .args in
     c .stop2 .ensures ∙ m-over (a .table) (omega arith)
 
--- src/checking.rt:239:9
 stop-requires-3 : tie.Need-stop-requires-3
 stop-requires-3 c κs = search needs
 
--- src/checking.rt:239:9
 returns-3 : tie.Need-returns-3
 returns-3 c =
     let a = c .before .before .before .before .before .before .before .args in
     c .stop3 .ensures ∙ n-under (a .table) (omega arith) (omega arith) (omega arith)
 
--- src/checking.rt:242:9
 stop-requires-4 : tie.Need-stop-requires-4
 stop-requires-4 c κs = search needs
 
--- src/checking.rt:242:9
 returns-4 : tie.Need-returns-4
 returns-4 c =
     let a = c .before .before .before .before .before .before .before .before .before .args in
     c .stop4 .ensures ∙ n-over (a .table) (omega arith) (omega arith) (omega arith)
 
--- src/checking.rt:244:5
 check-tasks-requires : tie.Need-check-tasks-requires
 check-tasks-requires c κs = search needs
 
--- src/checking.rt:229:1
 returns-5 : tie.Need-returns-5
 returns-5 c =
     let a = c .before .before .before .before .before .before .before .before .before .args in

@@ -1,67 +1,50 @@
-use Rattle.table.specs.Checking.{stopped}
-use Rattle.table.specs.declared.Outcome.the-variants.{Read, Cycle}
+use mathlib.Core.Bool.{Bool}
+use mathlib.Core.Path.{sym, ap, _∙_}
+use borrow.Author.Needs.{needs}
 use Rattle.graph.specs.Words.{pick}
 use Rattle.graph.specs.Graph.{acyclic}
-use mathlib.Core.Bool.{Bool}
+use Rattle.table.specs.Checking.{stopped}
+use Rattle.table.specs.declared.Outcome.the-variants.{Read, Cycle}
 use Rattle.table.proofs.TaskTests.{parts-costs, parts-edges, parts-last}
-use mathlib.Core.Path.{_≡_, refl, sym, ap, _∙_}
-use borrow.Author.Needs.{needs}
 use Rattle.table.proofs.checking.check_parts.Statement.{statement}
 use Rattle.table.proofs.checking.check_parts.Tie as tie
-use Rattle.table.proofs.checking.check_parts.Reads as reads
-use Rattle.table.proofs.checking.check_parts.Lts as lts
-use Rattle.graph.proofs.is_acyclic.Reads as is-acyclic-reads
-use Rattle.table.proofs.checking.costs_tested.Reads as costs-tested-reads
-use Rattle.table.proofs.checking.edges_tested.Reads as edges-tested-reads
-use Rattle.table.proofs.checking.stop.Reads as stop-reads
-use Rattle.table.proofs.checking.used_rows.Reads as used-rows-reads
 
--- src/checking.rt:150:42
 add-costs-tested : tie.Need-add-costs-tested
 add-costs-tested c = search needs
 
--- src/checking.rt:150:9
 costs-tested-requires : tie.Need-costs-tested-requires
 costs-tested-requires c κs = search needs
 
 enum-told : tie.Need-enum-told
 enum-told c = search needs
 
--- src/checking.rt:152:9
 stop-requires : tie.Need-stop-requires
 stop-requires c κs = search needs
 
--- src/checking.rt:152:9
 returns : tie.Need-returns
 returns c =
     let a = c .before .before .before .args in
     let o = c .before .before .costs-tested in
     c .stop .ensures ∙ parts-costs (a .succ) (a .costs .now) (a .slot) (a .at) (a .v) (o .result) (o .ensures) (c .before .match .keys2)
 
--- src/checking.rt:154:35
 add-edges-tested : tie.Need-add-edges-tested
 add-edges-tested c = search needs
 
--- src/checking.rt:154:45
 mul-edges-tested : tie.Need-mul-edges-tested
 mul-edges-tested c = search needs
 
--- src/checking.rt:154:35
 add-edges-tested-2 : tie.Need-add-edges-tested-2
 add-edges-tested-2 c = search needs
 
--- src/checking.rt:154:9
 edges-tested-requires : tie.Need-edges-tested-requires
 edges-tested-requires c κs = search needs
 
 enum-told-2 : tie.Need-enum-told-2
 enum-told-2 c = search needs
 
--- src/checking.rt:157:9
 stop-requires-2 : tie.Need-stop-requires-2
 stop-requires-2 c κs = search needs
 
--- src/checking.rt:157:9
 returns-2 : tie.Need-returns-2
 returns-2 c =
     let g = c .before .before in
@@ -71,15 +54,12 @@ returns-2 c =
     ∙ parts-edges (a .succ) (a .costs .now) (a .slot) (a .at) (a .v) (o .costs-tested .result) (o .costs-tested .ensures) (g .before .enum-told .given .1)
     (g .edges-tested .result) (g .edges-tested .ensures) (c .before .match2 .keys2)
 
--- src/checking.rt:159:26
 used-rows-requires : tie.Need-used-rows-requires
 used-rows-requires c κs = search needs
 
--- src/checking.rt:159:8
 is-acyclic-requires : tie.Need-is-acyclic-requires
 is-acyclic-requires c κs = search needs
 
--- src/checking.rt:160:9
 returns-3 : tie.Need-returns-3
 returns-3 c =
     let g = c .before .before .before .before .before in
@@ -91,11 +71,9 @@ returns-3 c =
     ∙ parts-last (a .succ) (a .costs .now) (a .slot) (a .at) (a .v) (o .costs-tested .result) (o .costs-tested .ensures) (g .before .enum-told .given .1)
     (g .edges-tested .result) (g .edges-tested .ensures) (c .before .is-acyclic .result) b (c .before .before .before .enum-told2 .given .1)
 
--- src/checking.rt:165:5
 stop-requires-3 : tie.Need-stop-requires-3
 stop-requires-3 c κs = search needs
 
--- src/checking.rt:146:1
 returns-4 : tie.Need-returns-4
 returns-4 c =
     let d = c .before .before in

@@ -1,146 +1,113 @@
-use Rattle.table.proofs.TaskTests.{v-under, v-over, e-over, d-under, d-over, t-under, t-over, t-early, then-parts}
+use mathlib.Core.Path.{_∙_}
 use native.Mathlib.Omega.{arith}
-use mathlib.Core.Path.{_≡_, refl, sym, ap, _∙_}
 use borrow.Author.Needs.{needs}
+use Rattle.table.proofs.TaskTests.{v-under, v-over, e-over, d-under, d-over, t-under, t-over, t-early, then-parts}
 use Rattle.table.proofs.checking.check_task.Statement.{statement}
 use Rattle.table.proofs.checking.check_task.Tie as tie
-use Rattle.table.proofs.checking.check_task.Reads as reads
-use Rattle.table.proofs.checking.check_task.Lts as lts
-use Rattle.table.proofs.checking.check_parts.Reads as check-parts-reads
-use Rattle.table.proofs.checking.edge_count.Reads as edge-count-reads
-use Rattle.table.proofs.checking.stop.Reads as stop-reads
 
--- src/checking.rt:173:13
 cast-v : tie.Need-cast-v
 cast-v c = search needs
 
--- src/checking.rt:175:36
 add-t10 : tie.Need-add-t10
 add-t10 c = search needs
 
--- src/checking.rt:175:9
 stop-requires : tie.Need-stop-requires
 stop-requires c κs = search needs
 
--- src/checking.rt:175:9
 returns : tie.Need-returns
 returns c =
     let a = c .before .before .before .args in
     c .stop .ensures ∙ v-under (a .task) (a .costs .now) (a .slot) (a .at) (omega arith)
 
--- src/checking.rt:178:36
 add-t12 : tie.Need-add-t12
 add-t12 c = search needs
 
--- src/checking.rt:178:9
 stop-requires-2 : tie.Need-stop-requires-2
 stop-requires-2 c κs = search needs
 
--- src/checking.rt:178:9
 returns-2 : tie.Need-returns-2
 returns-2 c =
     let a = c .before .before .before .before .args in
     c .stop2 .ensures ∙ v-over (a .task) (a .costs .now) (a .slot) (a .at) (omega arith)
 
--- src/checking.rt:181:14
 edge-count-requires : tie.Need-edge-count-requires
 edge-count-requires c κs = search needs
 
--- src/checking.rt:182:36
 add-t15 : tie.Need-add-t15
 add-t15 c = search needs
 
--- src/checking.rt:182:9
 stop-requires-3 : tie.Need-stop-requires-3
 stop-requires-3 c κs = search needs
 
--- src/checking.rt:182:9
 returns-3 : tie.Need-returns-3
 returns-3 c =
     let a = c .before .before .before .before .before .before .before .args in
     let e = c .before .before .edge-count .ensures .0 in
     c .stop3 .ensures ∙ e-over (a .task) (a .costs .now) (a .slot) (a .at) (omega arith) (omega arith) (omega arith)
 
--- src/checking.rt:186:36
 add-t17 : tie.Need-add-t17
 add-t17 c = search needs
 
--- src/checking.rt:186:9
 stop-requires-4 : tie.Need-stop-requires-4
 stop-requires-4 c κs = search needs
 
--- src/checking.rt:186:9
 returns-4 : tie.Need-returns-4
 returns-4 c =
     let a = c .before .before .before .before .before .before .before .before .args in
     let e = c .before .before .before .edge-count .ensures .0 in
     c .stop4 .ensures ∙ d-under (a .task) (a .costs .now) (a .slot) (a .at) (omega arith) (omega arith) (omega arith) (omega arith)
 
--- src/checking.rt:189:36
 add-t19 : tie.Need-add-t19
 add-t19 c = search needs
 
--- src/checking.rt:189:9
 stop-requires-5 : tie.Need-stop-requires-5
 stop-requires-5 c κs = search needs
 
--- src/checking.rt:189:9
 returns-5 : tie.Need-returns-5
 returns-5 c =
     let a = c .before .before .before .before .before .before .before .before .before .args in
     let e = c .before .before .before .before .edge-count .ensures .0 in
     c .stop5 .ensures ∙ d-over (a .task) (a .costs .now) (a .slot) (a .at) (omega arith) (omega arith) (omega arith) (omega arith)
 
--- src/checking.rt:193:36
 add-t21 : tie.Need-add-t21
 add-t21 c = search needs
 
--- src/checking.rt:193:9
 stop-requires-6 : tie.Need-stop-requires-6
 stop-requires-6 c κs = search needs
 
--- src/checking.rt:193:9
 returns-6 : tie.Need-returns-6
 returns-6 c =
     let a = c .before .before .before .before .before .before .before .before .before .before .args in
     let e = c .before .before .before .before .before .edge-count .ensures .0 in
     c .stop6 .ensures ∙ t-under (a .task) (a .costs .now) (a .slot) (a .at) (omega arith) (omega arith) (omega arith) (omega arith) (omega arith) (omega arith)
 
--- src/checking.rt:196:36
 add-t23 : tie.Need-add-t23
 add-t23 c = search needs
 
--- src/checking.rt:196:9
 stop-requires-7 : tie.Need-stop-requires-7
 stop-requires-7 c κs = search needs
 
--- src/checking.rt:196:9
 returns-7 : tie.Need-returns-7
 returns-7 c =
     let a = c .before .before .before .before .before .before .before .before .before .before .before .args in
     let e = c .before .before .before .before .before .before .edge-count .ensures .0 in
     c .stop7 .ensures ∙ t-over (a .task) (a .costs .now) (a .slot) (a .at) (omega arith) (omega arith) (omega arith) (omega arith) (omega arith) (omega arith)
 
--- src/checking.rt:199:36
 add-t25 : tie.Need-add-t25
 add-t25 c = search needs
 
--- src/checking.rt:199:9
 stop-requires-8 : tie.Need-stop-requires-8
 stop-requires-8 c κs = search needs
 
--- src/checking.rt:199:9
 returns-8 : tie.Need-returns-8
 returns-8 c =
     let a = c .before .before .before .before .before .before .before .before .before .before .before .before .args in
     let e = c .before .before .before .before .before .before .before .edge-count .ensures .0 in
     c .stop8 .ensures ∙ t-early (a .task) (a .costs .now) (a .slot) (a .at) (omega arith) (omega arith) (omega arith) (omega arith) (omega arith) (omega arith) (omega arith) (omega arith)
 
--- src/checking.rt:201:5
 check-parts-requires : tie.Need-check-parts-requires
 check-parts-requires c κs = search needs
 
--- src/checking.rt:169:1
 returns-9 : tie.Need-returns-9
 returns-9 c =
     let a = c .before .before .before .before .before .before .before .before .before .before .before .before .args in

@@ -1,18 +1,13 @@
-use Rattle.table.specs.Checking.{taskTested}
-use Rattle.table.specs.Memory.{task, noTask}
+use mathlib.Core.Path.{_≡_, _∙_}
+use Prim.Native.Nat.{_≤_, _+_, _-_, _*_}
 use native.Mathlib.Nat.{sub-zero}
-use Prim.Native.Nat.{ℕ, _≤_, _<_, _+_, _-_, _*_}
-use mathlib.Core.Path.{_≡_, refl, sym, ap, _∙_}
 use native.Mathlib.Omega.{arith}
 use borrow.Author.Needs.{needs}
-use Rattle.table.specs.Checking.{tasksTested}
+use Rattle.table.specs.Checking.{taskTested, tasksTested}
+use Rattle.table.specs.Memory.{task, noTask}
 use Rattle.table.proofs.TaskTests.{task-next, tasks-stop, tasks-go, tasks-end}
 use Rattle.table.proofs.checking.check_tasks.Statement.{statement}
 use Rattle.table.proofs.checking.check_tasks.Tie as tie
-use Rattle.table.proofs.checking.check_tasks.Reads as reads
-use Rattle.table.proofs.checking.check_tasks.Lts as lts
-use Rattle.table.proofs.checking.check_task.Reads as check-task-reads
-use Rattle.table.proofs.checking.stop.Reads as stop-reads
 
 abbrev Inv-loop : tie.InvT-loop
 Inv-loop table n at₀ i₀ at i = (i ≤ n) × (at ≤ 4 + 316 * i) × (tasksTested table (n - i) i at ≡ tasksTested table n 0 4)
@@ -20,38 +15,30 @@ Inv-loop table n at₀ i₀ at i = (i ≤ n) × (at ≤ 4 + 316 * i) × (tasksTe
 abbrev μ-loop : tie.MeasureT-loop
 μ-loop table n at₀ i₀ at i = n - i
 
--- src/checking.rt:209:13
 cast-n : tie.Need-cast-n Inv-loop μ-loop
 cast-n c = search needs
 
--- src/checking.rt:212:5
 loop-holds : tie.Need-loop-holds Inv-loop μ-loop
 loop-holds c = (search needs, search needs, simp sub-zero)
 
--- src/checking.rt:213:20
 mul-task : tie.Need-mul-task Inv-loop μ-loop
 mul-task c = search needs
 
--- src/checking.rt:213:20
 element-copy-out-task : tie.Need-element-copy-out-task Inv-loop μ-loop
 element-copy-out-task c = search needs
 
--- src/checking.rt:214:48
 mul-check-task : tie.Need-mul-check-task Inv-loop μ-loop
 mul-check-task c = search needs
 
--- src/checking.rt:214:13
 check-task-requires : tie.Need-check-task-requires Inv-loop μ-loop
 check-task-requires c κs = search needs
 
 enum-told : tie.Need-enum-told Inv-loop μ-loop
 enum-told c = search needs
 
--- src/checking.rt:217:13
 stop-requires : tie.Need-stop-requires Inv-loop μ-loop
 stop-requires c κs = search needs
 
--- src/checking.rt:217:13
 returns : tie.Need-returns Inv-loop μ-loop
 unfolding task noTask
 returns c =
@@ -61,15 +48,12 @@ returns c =
     ∙ tasks-stop (l .before .args .t1) (l .before .args .t1 .n - l .loop .i) (l .before .args .t1 .n - (l .loop .i + 1)) (l .loop .i) (l .loop .at) (omega arith) (r .result) (r .ensures) (c .before .match .keys2)
     ∙ l .loop .inv .2
 
--- src/checking.rt:220:9
 add-i : tie.Need-add-i Inv-loop μ-loop
 add-i c = search needs
 
--- src/checking.rt:212:5
 loop-less : tie.Need-loop-less Inv-loop μ-loop
 loop-less c = search needs
 
--- src/checking.rt:212:5
 loop-again : tie.Need-loop-again Inv-loop μ-loop
 unfolding task noTask
 loop-again c =
@@ -84,7 +68,6 @@ loop-again c =
           ∙ l .loop .inv .2,
     )
 
--- src/checking.rt:205:1
 returns-2 : tie.Need-returns-2 Inv-loop μ-loop
 returns-2 c = tasks-end (c .before .before .args .t1) (c .before .before .args .t1 .n - c .before .loop .i) _ _ (omega arith) ∙ c .before .loop .inv .2
 

@@ -1,19 +1,16 @@
+use mathlib.Core.Path.{_≡_, ap}
+use Prim.Native.Nat.{_≤_, _+_, _-_, _*_}
+use native.Mathlib.Omega.{arith}
+use lib.ListN.{length, getD, length-append}
+use lib.Count.{ones-le}
 use mir.Syntax.{w16}
 use mir.Val.{Fits}
-use Rattle.table.specs.Checking.{rowKeys}
-use Prim.Native.Nat.{ℕ, _≤_, _<_, _+_, _-_, _*_}
-use mathlib.Core.Path.{_≡_, refl, sym, ap, _∙_}
-use native.Mathlib.Omega.{arith}
 use borrow.Author.Needs.{needs}
-use lib.ListN.{length, getD, length-append}
-use lib.Count.{ones, ones-le}
-use Rattle.table.specs.Checking.{keysOf}
+use Rattle.table.specs.Checking.{rowKeys, keysOf}
 use Rattle.table.proofs.Keys.{row-many}
 use Rattle.table.proofs.TestLaws.{keysFrom, keys-start, keys-next, keys-end}
 use Rattle.table.proofs.checking.edge_count.Statement.{statement}
 use Rattle.table.proofs.checking.edge_count.Tie as tie
-use Rattle.table.proofs.checking.edge_count.Reads as reads
-use Rattle.table.proofs.checking.edge_count.Lts as lts
 
 abbrev Inv-loop : tie.InvT-loop
 Inv-loop v succ n₀ u₀ n u = (u ≤ v) × (n ≤ 16 * u) × (n + length (keysFrom v succ u) ≡ length (keysOf v succ))
@@ -21,41 +18,33 @@ Inv-loop v succ n₀ u₀ n u = (u ≤ v) × (n ≤ 16 * u) × (n + length (keys
 abbrev μ-loop : tie.MeasureT-loop
 μ-loop v succ n₀ u₀ n u = v - u
 
--- src/checking.rt:18:5
 loop-holds : tie.Need-loop-holds Inv-loop μ-loop
 loop-holds c = (search needs, search needs, omega (arith, ap length (keys-start (c .args .v) (c .args .t1))))
 
--- src/checking.rt:19:30
 mul-n : tie.Need-mul-n Inv-loop μ-loop
 mul-n c = search needs
 
--- src/checking.rt:19:30
 array-read-n : tie.Need-array-read-n Inv-loop μ-loop
 array-read-n c = search needs
 
--- src/checking.rt:19:14
 cast-n : tie.Need-cast-n Inv-loop μ-loop
 cast-n c =
     let h : Fits w16 (getD (c .before .before .args .t1) (c .before .loop .u) 0) = search needs in
     let o = ones-le 16 (getD (c .before .before .args .t1) (c .before .loop .u) 0) (omega arith) in
     omega arith
 
--- src/checking.rt:19:9
 add-n : tie.Need-add-n Inv-loop μ-loop
 add-n c =
     let h : Fits w16 (getD (c .before .before .args .t1) (c .before .loop .u) 0) = search needs in
     let o = ones-le 16 (getD (c .before .before .args .t1) (c .before .loop .u) 0) (omega arith) in
     omega arith
 
--- src/checking.rt:20:9
 add-u : tie.Need-add-u Inv-loop μ-loop
 add-u c = search needs
 
--- src/checking.rt:18:5
 loop-less : tie.Need-loop-less Inv-loop μ-loop
 loop-less c = search needs
 
--- src/checking.rt:18:5
 loop-again : tie.Need-loop-again Inv-loop μ-loop
 loop-again c =
     let a = c .before .before .args in
@@ -68,7 +57,6 @@ loop-again c =
     let l = length-append (rowKeys 16 u 0 x) (keysFrom (a .v) (a .t1) (u + 1)) in
     (search needs, omega arith, omega arith)
 
--- src/checking.rt:12:1
 returns : tie.Need-returns Inv-loop μ-loop
 returns c =
     let a = c .before .before .args in

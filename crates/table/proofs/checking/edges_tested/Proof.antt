@@ -1,23 +1,18 @@
-use Rattle.table.proofs.TestLaws.{rows-next, rows-go, rows-end, edges-next}
-use Rattle.table.proofs.Otherwise.{otherwise}
-use Rattle.table.proofs.Keys.{row-many}
-use Rattle.table.specs.Checking.{stopped}
 use mathlib.Core.List.{List}
-use lib.Count.{ones-le}
-use Prim.Native.Nat.{ℕ, _≤_, _<_, _+_, _-_, _*_}
-use mathlib.Core.Path.{_≡_, refl, sym, ap, _∙_}
+use mathlib.Core.Path.{_≡_, sym, ap, _∙_}
+use Prim.Native.Nat.{ℕ, _≤_, _+_, _-_, _*_}
 use native.Mathlib.Omega.{arith}
-use borrow.Author.Needs.{needs}
-use lib.ListN.{length, getD, length-append}
+use lib.Count.{ones-le}
+use lib.ListN.{length, getD}
 use mir.Val.{Fits}
 use mir.Syntax.{w16}
-use Rattle.table.specs.Checking.{rowKeys, keysOf, edgesTested}
-use Rattle.table.proofs.TestLaws.{keysFrom, keys-start}
+use borrow.Author.Needs.{needs}
+use Rattle.table.specs.Checking.{stopped, rowKeys, keysOf, edgesTested}
+use Rattle.table.proofs.TestLaws.{rows-next, rows-go, rows-end, edges-next, keysFrom, keys-start}
+use Rattle.table.proofs.Otherwise.{otherwise}
+use Rattle.table.proofs.Keys.{row-many}
 use Rattle.table.proofs.checking.edges_tested.Statement.{statement}
 use Rattle.table.proofs.checking.edges_tested.Tie as tie
-use Rattle.table.proofs.checking.edges_tested.Reads as reads
-use Rattle.table.proofs.checking.edges_tested.Lts as lts
-use Rattle.table.proofs.checking.row_tested.Reads as row-tested-reads
 
 abbrev Inv-loop : tie.InvT-loop
 Inv-loop v at succ p₀ u₀ p u = (u ≤ v) × (p ≤ at + 32 * u) × (edgesTested v (keysFrom v succ u) p ≡ edgesTested v (keysOf v succ) at)
@@ -25,26 +20,21 @@ Inv-loop v at succ p₀ u₀ p u = (u ≤ v) × (p ≤ at + 32 * u) × (edgesTes
 abbrev μ-loop : tie.MeasureT-loop
 μ-loop v at succ p₀ u₀ p u = v - u
 
--- src/checking.rt:103:5
 loop-holds : tie.Need-loop-holds Inv-loop μ-loop
 loop-holds c = (search needs, search needs, ap (λ (l : List ℕ). edgesTested (c .args .v) l (c .args .at)) (keys-start (c .args .v) (c .args .t1)))
 
--- src/checking.rt:104:28
 mul-row-tested : tie.Need-mul-row-tested Inv-loop μ-loop
 mul-row-tested c = search needs
 
--- src/checking.rt:104:28
 array-read-row-tested : tie.Need-array-read-row-tested Inv-loop μ-loop
 array-read-row-tested c = search needs
 
--- src/checking.rt:104:13
 row-tested-requires : tie.Need-row-tested-requires Inv-loop μ-loop
 row-tested-requires c κs = search needs
 
 enum-told : tie.Need-enum-told Inv-loop μ-loop
 enum-told c = search needs
 
--- src/checking.rt:107:13
 returns : tie.Need-returns Inv-loop μ-loop
 unfolding stopped
 returns c =
@@ -53,15 +43,12 @@ returns c =
     otherwise (r .result .outcome) stopped _ (c .match .keys2)
     ∙ sym (rows-next (b .before .args .v) (b .before .args .t1) (b .loop .u) (b .loop .p) (r .result) (omega arith) (r .ensures)) ∙ b .loop .inv .2
 
--- src/checking.rt:113:9
 add-u : tie.Need-add-u Inv-loop μ-loop
 add-u c = search needs
 
--- src/checking.rt:103:5
 loop-less : tie.Need-loop-less Inv-loop μ-loop
 loop-less c = search needs
 
--- src/checking.rt:103:5
 loop-again : tie.Need-loop-again Inv-loop μ-loop
 loop-again c =
     let r = c .before .before .row-tested in
@@ -77,7 +64,6 @@ loop-again c =
       rows-go (b .before .args .v) (b .before .args .t1) (b .loop .u) (b .loop .p) (r .result) (omega arith) (r .ensures) (c .enum-told .given .1) ∙ b .loop .inv .2,
     )
 
--- src/checking.rt:97:1
 returns-2 : tie.Need-returns-2 Inv-loop μ-loop
 returns-2 c = rows-end (c .before .before .args .v) (c .before .before .args .t1) (c .before .loop .u) (c .before .loop .p) (omega arith) ∙ c .before .loop .inv .2
 

@@ -1,58 +1,46 @@
-use Rattle.table.proofs.TestLaws.{row-passes, bits-pass}
-use Rattle.table.proofs.Keys.{row-many}
-use Rattle.table.specs.declared.Outcome.the-variants.{Read}
-use lib.Count.{ones-le}
-use Prim.Native.Nat.{ℕ, _≤_, _<_, _+_, _-_, _*_}
-use mathlib.Core.Path.{_≡_, refl, sym, ap, _∙_}
+use mathlib.Core.Path.{sym, ap, _∙_}
+use Prim.Native.Nat.{ℕ, _+_, _*_}
 use native.Mathlib.Omega.{arith}
-use lib.ListN.{length, getD, length-append}
+use lib.Count.{ones-le}
 use mir.Val.{Fits}
 use mir.Syntax.{w16}
 use borrow.Author.Needs.{needs}
+use Rattle.table.specs.declared.Outcome.the-variants.{Read}
+use Rattle.table.proofs.TestLaws.{row-passes, bits-pass}
+use Rattle.table.proofs.Keys.{row-many}
 use Rattle.table.proofs.checking.row_tested.Statement.{statement}
 use Rattle.table.proofs.checking.row_tested.Tie as tie
-use Rattle.table.proofs.checking.row_tested.Reads as reads
-use Rattle.table.proofs.checking.row_tested.Lts as lts
-use Rattle.table.proofs.checking.row_walked.Reads as row-walked-reads
 
--- src/checking.rt:84:33
 cast-high : tie.Need-cast-high
 cast-high c = search needs
 
--- src/checking.rt:84:16
 shr-high : tie.Need-shr-high
 shr-high c = search needs
 
--- src/checking.rt:86:21
 cast-if2 : tie.Need-cast-if2
 cast-if2 c = search needs
 
--- src/checking.rt:86:13
 shr-if2 : tie.Need-shr-if2
 shr-if2 c = search needs
 
--- src/checking.rt:89:33
 cast-t15 : tie.Need-cast-t15
 cast-t15 c =
     let h : Fits w16 (c .before .before .args .bits) = search needs in
     let o = ones-le 16 (c .before .before .args .bits) (omega arith) in
     omega arith
 
--- src/checking.rt:89:28
 mul-t16 : tie.Need-mul-t16
 mul-t16 c =
     let h : Fits w16 (c .before .before .args .bits) = search needs in
     let o = ones-le 16 (c .before .before .args .bits) (omega arith) in
     omega arith
 
--- src/checking.rt:89:23
 add-t17 : tie.Need-add-t17
 add-t17 c =
     let h : Fits w16 (c .before .before .args .bits) = search needs in
     let o = ones-le 16 (c .before .before .args .bits) (omega arith) in
     omega arith
 
--- src/checking.rt:87:13
 returns : tie.Need-returns
 returns c =
     let a = c .before .before .args in
@@ -61,11 +49,9 @@ returns c =
     ap (λ (n : ℕ). record { outcome = Read; next = a .at + 2 * n }) (sym m)
     ∙ row-passes (a .v) 16 (a .u) 0 (a .bits) (a .at) (omega arith) (bits-pass (a .v) (a .u) (a .bits) (c .before .if1 .taken) (c .if2 .taken))
 
--- src/checking.rt:93:5
 row-walked-requires : tie.Need-row-walked-requires
 row-walked-requires c κs = search needs
 
--- src/checking.rt:80:1
 returns-2 : tie.Need-returns-2
 returns-2 c = search needs
 

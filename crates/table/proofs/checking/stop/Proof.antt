@@ -2,10 +2,7 @@ use mathlib.Core.Path.{refl}
 use Rattle.table.specs.Checking.{stopped}
 use Rattle.table.proofs.checking.stop.Statement.{statement}
 use Rattle.table.proofs.checking.stop.Tie as tie
-use Rattle.table.proofs.checking.stop.Reads as reads
-use Rattle.table.proofs.checking.stop.Lts as lts
 
--- src/checking.rt:136:1
 returns : tie.Need-returns
 unfolding stopped
 returns c = refl

@@ -1,19 +1,13 @@
-use Rattle.table.proofs.TestLaws.{no-rows}
-use lib.ListN.{set}
 use mathlib.Core.List.{List}
-use Prim.Native.Nat.{ℕ, _≤_, _<_, _+_, _-_, _*_}
-use mathlib.Core.Path.{_≡_, refl, sym, ap, _∙_}
+use mathlib.Core.Path.{_≡_, ap, _∙_}
+use Prim.Native.Nat.{ℕ, _≤_, _-_}
 use native.Mathlib.Omega.{arith}
+use lib.ListN.{set, getD}
 use borrow.Author.Needs.{needs}
-use lib.ListN.{length, getD, length-append}
-use mir.Val.{Fits}
-use mir.Syntax.{w16}
 use Rattle.table.specs.Checking.{usedRows}
-use Rattle.table.proofs.TestLaws.{used-more}
+use Rattle.table.proofs.TestLaws.{no-rows, used-more}
 use Rattle.table.proofs.checking.used_rows.Statement.{statement}
 use Rattle.table.proofs.checking.used_rows.Tie as tie
-use Rattle.table.proofs.checking.used_rows.Reads as reads
-use Rattle.table.proofs.checking.used_rows.Lts as lts
 
 abbrev Inv-loop : tie.InvT-loop
 Inv-loop v succ rows₀ u₀ rows u = (u ≤ v) × (rows ≡ usedRows u succ)
@@ -21,39 +15,30 @@ Inv-loop v succ rows₀ u₀ rows u = (u ≤ v) × (rows ≡ usedRows u succ)
 abbrev μ-loop : tie.MeasureT-loop
 μ-loop v succ rows₀ u₀ rows u = v - u
 
--- src/checking.rt:128:5
 loop-holds : tie.Need-loop-holds Inv-loop μ-loop
 loop-holds c = (search needs, no-rows (c .args .t1))
 
--- src/checking.rt:129:19
 mul-rows : tie.Need-mul-rows Inv-loop μ-loop
 mul-rows c = search needs
 
--- src/checking.rt:129:19
 array-read-rows : tie.Need-array-read-rows Inv-loop μ-loop
 array-read-rows c = search needs
 
--- src/checking.rt:129:9
 mul-rows-2 : tie.Need-mul-rows-2 Inv-loop μ-loop
 mul-rows-2 c = search needs
 
--- src/checking.rt:129:9
 array-write-rows : tie.Need-array-write-rows Inv-loop μ-loop
 array-write-rows c = search needs
 
--- src/checking.rt:130:9
 add-u : tie.Need-add-u Inv-loop μ-loop
 add-u c = search needs
 
--- src/checking.rt:128:5
 loop-less : tie.Need-loop-less Inv-loop μ-loop
 loop-less c = search needs
 
--- src/checking.rt:128:5
 loop-again : tie.Need-loop-again Inv-loop μ-loop
 loop-again c = (search needs, ap (λ (l : List ℕ). set l (c .before .loop .u) (getD (c .before .before .args .t1) (c .before .loop .u) 0)) (c .before .loop .inv .1) ∙ used-more (c .before .before .args .t1) (c .before .loop .u) (omega arith))
 
--- src/checking.rt:122:1
 returns : tie.Need-returns Inv-loop μ-loop
 returns c = let q : c .before .loop .u ≡ c .before .before .args .v = omega arith in c .before .loop .inv .1 ∙ ap (λ (n : ℕ). usedRows n (c .before .before .args .t1)) q
 

@@ -1,49 +1,38 @@
-use Rattle.table.proofs.UnusedLaws.{in-used, in-v, in-d, in-t, in-rest}
-use mathlib.Core.Path.{_≡_, refl, sym, ap, _∙_}
+use mathlib.Core.Path.{_∙_}
 use borrow.Author.Needs.{needs}
+use Rattle.table.proofs.UnusedLaws.{in-used, in-v, in-d, in-t, in-rest}
 use Rattle.table.proofs.entries.unused_in.Statement.{statement}
 use Rattle.table.proofs.entries.unused_in.Tie as tie
-use Rattle.table.proofs.entries.unused_in.Reads as reads
-use Rattle.table.proofs.entries.unused_in.Lts as lts
-use Rattle.table.proofs.entries.zero_from.Reads as zero-from-reads
 
--- src/entries.rt:34:45
 cast-zero-from : tie.Need-cast-zero-from
 cast-zero-from c = search needs
 
--- src/entries.rt:34:9
 zero-from-requires : tie.Need-zero-from-requires
 zero-from-requires c κs = search needs
 
--- src/entries.rt:34:9
 returns : tie.Need-returns
 returns c =
     let a = c .before .before .before .before .args in
     c .zero-from .ensures ∙ in-used (a .task) (a .costs .now) (a .slot) (a .used) (c .before .before .if1 .taken)
 
--- src/entries.rt:37:9
 returns-2 : tie.Need-returns-2
 returns-2 c =
     let a = c .before .before .before .before .args in
     in-v (a .task) (a .costs .now) (a .slot) (a .used) (c .before .before .if1 .left) (c .if2 .taken)
 
--- src/entries.rt:40:9
 returns-3 : tie.Need-returns-3
 returns-3 c =
     let a = c .before .before .before .before .before .before .args in
     in-d (a .task) (a .costs .now) (a .slot) (a .used) (c .before .before .before .before .if1 .left) (c .if3 .taken)
 
--- src/entries.rt:43:9
 returns-4 : tie.Need-returns-4
 returns-4 c =
     let a = c .before .before .before .before .before .before .before .before .args in
     in-t (a .task) (a .costs .now) (a .slot) (a .used) (c .before .before .before .before .before .before .if1 .left) (c .if4 .taken)
 
--- src/entries.rt:45:5
 zero-from-requires-2 : tie.Need-zero-from-requires-2
 zero-from-requires-2 c κs = search needs
 
--- src/entries.rt:28:1
 returns-5 : tie.Need-returns-5
 returns-5 c =
     let a = c .before .before .before .before .before .before .before .before .before .args in

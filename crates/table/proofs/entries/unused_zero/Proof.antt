@@ -1,20 +1,15 @@
-use Rattle.table.specs.Memory.{task, noTask}
-use Rattle.graph.proofs.Facts.{all-of}
-use borrow.Author.Tests.{not-true, not-false}
-use mathlib.Core.Bool.{false}
-use Prim.Native.Nat.{ℕ, _≤_, _<_, _+_, _-_, _*_}
-use mathlib.Core.Path.{_≡_, refl, sym, ap, _∙_}
+use mathlib.Core.Bool.{false, true}
+use mathlib.Core.Path.{_≡_, sym, _∙_}
+use Prim.Native.Nat.{ℕ, _≤_, _<_, _-_}
 use native.Mathlib.Omega.{arith}
+use borrow.Author.Tests.{not-true, not-false}
 use borrow.Author.Needs.{needs}
-use lib.ListN.{length, getD, set, length-append}
-use mathlib.Core.Bool.{true}
-use Rattle.table.proofs.UnusedLaws.{unusedAt, unused-is, all-fails}
 use borrow.Author.Count.{below-more}
+use Rattle.graph.proofs.Facts.{all-of}
+use Rattle.table.specs.Memory.{task, noTask}
+use Rattle.table.proofs.UnusedLaws.{unusedAt, unused-is, all-fails}
 use Rattle.table.proofs.entries.unused_zero.Statement.{statement}
 use Rattle.table.proofs.entries.unused_zero.Tie as tie
-use Rattle.table.proofs.entries.unused_zero.Reads as reads
-use Rattle.table.proofs.entries.unused_zero.Lts as lts
-use Rattle.table.proofs.entries.unused_in.Reads as unused-in-reads
 
 abbrev Inv-loop : tie.InvT-loop
 Inv-loop table n i₀ i = (i ≤ 16) × ((k : ℕ) → k < i → unusedAt table k ≡ true)
@@ -22,31 +17,24 @@ Inv-loop table n i₀ i = (i ≤ 16) × ((k : ℕ) → k < i → unusedAt table 
 abbrev μ-loop : tie.MeasureT-loop
 μ-loop table n i₀ i = 16 - i
 
--- src/entries.rt:52:13
 cast-n : tie.Need-cast-n Inv-loop μ-loop
 cast-n c = search needs
 
--- src/entries.rt:54:5
 loop-holds : tie.Need-loop-holds Inv-loop μ-loop
 loop-holds c = (search needs, λ k h. absurd (omega arith))
 
--- src/entries.rt:55:20
 mul-task : tie.Need-mul-task Inv-loop μ-loop
 mul-task c = search needs
 
--- src/entries.rt:55:20
 element-copy-out-task : tie.Need-element-copy-out-task Inv-loop μ-loop
 element-copy-out-task c = search needs
 
--- src/entries.rt:57:43
 mul-unused-in : tie.Need-mul-unused-in Inv-loop μ-loop
 mul-unused-in c = search needs
 
--- src/entries.rt:57:13
 unused-in-requires : tie.Need-unused-in-requires Inv-loop μ-loop
 unused-in-requires c κs = search needs
 
--- src/entries.rt:58:13
 returns : tie.Need-returns Inv-loop μ-loop
 unfolding unusedAt task noTask
 returns c =
@@ -54,15 +42,12 @@ returns c =
     let e : unusedAt (l .before .args .t1) (l .loop .i) ≡ false = sym (c .before .unused-in .ensures) ∙ not-true _ (c .if1 .taken) in
     sym (unused-is (l .before .args .t1) ∙ all-fails 16 _ (l .loop .i) (omega arith) e)
 
--- src/entries.rt:60:9
 add-i : tie.Need-add-i Inv-loop μ-loop
 add-i c = search needs
 
--- src/entries.rt:54:5
 loop-less : tie.Need-loop-less Inv-loop μ-loop
 loop-less c = search needs
 
--- src/entries.rt:54:5
 loop-again : tie.Need-loop-again Inv-loop μ-loop
 unfolding unusedAt task noTask
 loop-again c =
@@ -70,7 +55,6 @@ loop-again c =
     let e : unusedAt (l .before .args .t1) (l .loop .i) ≡ true = sym (c .before .unused-in .ensures) ∙ not-false _ (c .if1 .left) in
     (omega arith, below-more _ _ (l .loop .inv .1) e)
 
--- src/entries.rt:49:1
 returns-2 : tie.Need-returns-2 Inv-loop μ-loop
 returns-2 c = sym (unused-is (c .before .before .args .t1) ∙ all-of 16 _ (λ k h. c .before .loop .inv .1 k (omega arith)))
 

@@ -1,62 +1,47 @@
-use Rattle.table.specs.Writing.{bytes4}
-use lib.ListN.{length-set}
 use native.Mathlib.Numerals.{towards-suc}
 use native.Mathlib.Omega.{arith}
+use lib.ListN.{length-set}
 use borrow.Author.Needs.{needs}
+use Rattle.table.specs.Writing.{bytes4}
 use Rattle.table.proofs.writing.put4.Statement.{statement}
 use Rattle.table.proofs.writing.put4.Tie as tie
-use Rattle.table.proofs.writing.put4.Reads as reads
-use Rattle.table.proofs.writing.put4.Lts as lts
 
--- src/writing.rt:15:18
 cast-buffer : tie.Need-cast-buffer
 cast-buffer c = search needs
 
--- src/writing.rt:15:5
 slice-write-buffer : tie.Need-slice-write-buffer
 slice-write-buffer c = search needs
 
--- src/writing.rt:16:22
 cast-buffer-2 : tie.Need-cast-buffer-2
 cast-buffer-2 c = search needs
 
--- src/writing.rt:16:12
 add-buffer : tie.Need-add-buffer
 add-buffer c = search needs
 
--- src/writing.rt:16:5
 slice-write-buffer-2 : tie.Need-slice-write-buffer-2
 slice-write-buffer-2 c = simp length-set (omega arith)
 
--- src/writing.rt:17:22
 cast-buffer-3 : tie.Need-cast-buffer-3
 cast-buffer-3 c = search needs
 
--- src/writing.rt:17:12
 add-buffer-2 : tie.Need-add-buffer-2
 add-buffer-2 c = search needs
 
--- src/writing.rt:17:5
 slice-write-buffer-3 : tie.Need-slice-write-buffer-3
 slice-write-buffer-3 c = simp length-set (omega arith)
 
--- src/writing.rt:18:22
 cast-buffer-4 : tie.Need-cast-buffer-4
 cast-buffer-4 c = search needs
 
--- src/writing.rt:18:12
 add-buffer-3 : tie.Need-add-buffer-3
 add-buffer-3 c = search needs
 
--- src/writing.rt:18:5
 slice-write-buffer-4 : tie.Need-slice-write-buffer-4
 slice-write-buffer-4 c = simp length-set (omega arith)
 
--- src/writing.rt:11:1
 same-length : tie.Need-same-length
 same-length c = search needs
 
--- src/writing.rt:11:1
 returns : tie.Need-returns
 unfolding bytes4
 returns c = simp towards-suc

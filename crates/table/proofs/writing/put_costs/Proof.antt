@@ -1,18 +1,14 @@
-use Prim.Native.Nat.{ℕ, _≤_, _<_, _+_, _-_, _*_}
 use mathlib.Core.Path.{_≡_, refl, sym, ap, _∙_}
+use Prim.Native.Nat.{ℕ, _≤_, _+_, _-_, _*_}
 use native.Mathlib.Omega.{arith}
-use borrow.Author.Needs.{needs}
-use lib.ListN.{length, getD, set, length-append}
-use mathlib.Core.List.{List, []}
+use lib.ListN.{length, getD}
 use lib.Seq.{sets}
+use borrow.Author.Needs.{needs}
 use Rattle.table.specs.Writing.{bytes4}
 use Rattle.table.specs.Checking.{costBytes}
 use Rattle.table.proofs.PutLaws.{sets-then, costsFrom, costs-start, costs-next, costs-last, four-long}
 use Rattle.table.proofs.writing.put_costs.Statement.{statement}
 use Rattle.table.proofs.writing.put_costs.Tie as tie
-use Rattle.table.proofs.writing.put_costs.Reads as reads
-use Rattle.table.proofs.writing.put_costs.Lts as lts
-use Rattle.table.proofs.writing.put4.Reads as put4-reads
 
 abbrev Inv-loop : tie.InvT-loop
 Inv-loop buffer₀ at costs slot v p₀ u₀ buffer p u = (u ≤ v) × (p ≡ at + 4 * u) × (length buffer ≡ length buffer₀) × (sets buffer p (costsFrom costs slot v u) ≡ sets buffer₀ at (costBytes costs slot v))
@@ -20,39 +16,30 @@ Inv-loop buffer₀ at costs slot v p₀ u₀ buffer p u = (u ≤ v) × (p ≡ at
 abbrev μ-loop : tie.MeasureT-loop
 μ-loop buffer₀ at costs slot v p₀ u₀ buffer p u = v - u
 
--- src/writing.rt:39:5
 loop-holds : tie.Need-loop-holds Inv-loop μ-loop
 loop-holds c = let a = c .before .args in (search needs, omega arith, refl, ap (sets (a .buffer .now) (a .at)) (costs-start (a .costs .now) (a .slot) (a .v)))
 
--- src/writing.rt:40:23
 add-x : tie.Need-add-x Inv-loop μ-loop
 add-x c = search needs
 
--- src/writing.rt:40:17
 mul-x : tie.Need-mul-x Inv-loop μ-loop
 mul-x c = search needs
 
--- src/writing.rt:40:17
 element-copy-out-x : tie.Need-element-copy-out-x Inv-loop μ-loop
 element-copy-out-x c = search needs
 
--- src/writing.rt:41:9
 put4-requires : tie.Need-put4-requires Inv-loop μ-loop
 put4-requires c κs = search needs
 
--- src/writing.rt:42:9
 add-p : tie.Need-add-p Inv-loop μ-loop
 add-p c = search needs
 
--- src/writing.rt:43:9
 add-u : tie.Need-add-u Inv-loop μ-loop
 add-u c = search needs
 
--- src/writing.rt:39:5
 loop-less : tie.Need-loop-less Inv-loop μ-loop
 loop-less c = search needs
 
--- src/writing.rt:39:5
 loop-again : tie.Need-loop-again Inv-loop μ-loop
 loop-again c =
     let l = c .before .before .before .before .before .before in
@@ -67,11 +54,9 @@ loop-again c =
           ∙ ap (sets (l .loop .buffer) (l .loop .p)) (sym (costs-next (a .costs .now) (a .slot) (a .v) (l .loop .u) (omega arith))) ∙ l .loop .inv .3,
     )
 
--- src/writing.rt:33:1
 same-length : tie.Need-same-length Inv-loop μ-loop
 same-length c = c .before .loop .inv .2
 
--- src/writing.rt:33:1
 returns : tie.Need-returns Inv-loop μ-loop
 returns c =
     let a = c .before .before .before .args in

@@ -1,20 +1,16 @@
-use Prim.Native.Nat.{ℕ, _≤_, _<_, _+_, _-_, _*_}
 use mathlib.Core.Path.{_≡_, refl, sym, ap, _∙_}
-use native.Mathlib.Omega.{arith}
-use borrow.Author.Needs.{needs}
-use lib.ListN.{length, getD, set, length-append}
-use Prim.Native.Nat.{_%_}
 use mathlib.Core.List.{List}
+use Prim.Native.Nat.{ℕ, _≤_, _+_, _-_, _*_, _%_}
+use native.Mathlib.Omega.{arith}
+use lib.ListN.{length, getD}
 use lib.Seq.{sets}
+use borrow.Author.Needs.{needs}
 use Rattle.table.specs.Writing.{edgeBytes}
 use Rattle.table.specs.Checking.{rowKeys, keysOf}
 use Rattle.table.proofs.TestLaws.{keysFrom, keys-start, keys-end}
 use Rattle.table.proofs.PutLaws.{sets-then, rows-bytes, rows-long, edges-long, no-edges}
 use Rattle.table.proofs.writing.put_edges.Statement.{statement}
 use Rattle.table.proofs.writing.put_edges.Tie as tie
-use Rattle.table.proofs.writing.put_edges.Reads as reads
-use Rattle.table.proofs.writing.put_edges.Lts as lts
-use Rattle.table.proofs.writing.put_row.Reads as put-row-reads
 
 abbrev Inv-loop : tie.InvT-loop
 Inv-loop buffer₀ at v succ p₀ u₀ buffer p u = (u ≤ v) × (length buffer ≡ length buffer₀) × (p + 2 * length (keysFrom v succ u) ≡ at + 2 * length (keysOf v succ)) × (sets buffer p (edgeBytes (keysFrom v succ u)) ≡ sets buffer₀ at (edgeBytes (keysOf v succ)))
@@ -22,7 +18,6 @@ Inv-loop buffer₀ at v succ p₀ u₀ buffer p u = (u ≤ v) × (length buffer 
 abbrev μ-loop : tie.MeasureT-loop
 μ-loop buffer₀ at v succ p₀ u₀ buffer p u = v - u
 
--- src/writing.rt:74:5
 loop-holds : tie.Need-loop-holds Inv-loop μ-loop
 loop-holds c =
     let a = c .before .args in
@@ -30,19 +25,15 @@ loop-holds c =
     let n = ap length e in
     (search needs, refl, omega arith, ap (λ (k : List ℕ). sets (a .buffer .now) (a .at) (edgeBytes k)) e)
 
--- src/writing.rt:75:38
 cast-put-row : tie.Need-cast-put-row Inv-loop μ-loop
 cast-put-row c = search needs
 
--- src/writing.rt:75:55
 mul-put-row : tie.Need-mul-put-row Inv-loop μ-loop
 mul-put-row c = search needs
 
--- src/writing.rt:75:55
 array-read-put-row : tie.Need-array-read-put-row Inv-loop μ-loop
 array-read-put-row c = search needs
 
--- src/writing.rt:75:9
 put-row-requires : tie.Need-put-row-requires Inv-loop μ-loop
 put-row-requires c κs =
     let l = c .before .before .loop in
@@ -53,15 +44,12 @@ put-row-requires c κs =
     let k = l .inv .1 in
     (omega arith, rw q (omega arith))
 
--- src/writing.rt:76:9
 add-u : tie.Need-add-u Inv-loop μ-loop
 add-u c = search needs
 
--- src/writing.rt:74:5
 loop-less : tie.Need-loop-less Inv-loop μ-loop
 loop-less c = search needs
 
--- src/writing.rt:74:5
 loop-again : tie.Need-loop-again Inv-loop μ-loop
 loop-again c =
     let l = c .before .before .before .before .before .loop in
@@ -81,11 +69,9 @@ loop-again c =
           ∙ ap (sets (l .buffer) (l .p)) (sym (rows-bytes (a .v) (a .t3) (l .u) (omega arith))) ∙ l .inv .3,
     )
 
--- src/writing.rt:68:1
 same-length : tie.Need-same-length Inv-loop μ-loop
 same-length c = c .before .loop .inv .1
 
--- src/writing.rt:68:1
 returns : tie.Need-returns Inv-loop μ-loop
 returns c =
     let l = c .before .loop in

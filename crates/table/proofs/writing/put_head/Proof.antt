@@ -1,45 +1,34 @@
-use lib.ListN.{length-set}
 use native.Mathlib.Numerals.{towards-suc}
 use native.Mathlib.Omega.{arith}
+use lib.ListN.{length-set}
 use borrow.Author.Needs.{needs}
 use Rattle.table.proofs.writing.put_head.Statement.{statement}
 use Rattle.table.proofs.writing.put_head.Tie as tie
-use Rattle.table.proofs.writing.put_head.Reads as reads
-use Rattle.table.proofs.writing.put_head.Lts as lts
 
--- src/writing.rt:26:5
 slice-write-buffer : tie.Need-slice-write-buffer
 slice-write-buffer c = search needs
 
--- src/writing.rt:27:12
 add-buffer : tie.Need-add-buffer
 add-buffer c = search needs
 
--- src/writing.rt:27:5
 slice-write-buffer-2 : tie.Need-slice-write-buffer-2
 slice-write-buffer-2 c = simp length-set (omega arith)
 
--- src/writing.rt:28:12
 add-buffer-2 : tie.Need-add-buffer-2
 add-buffer-2 c = search needs
 
--- src/writing.rt:28:5
 slice-write-buffer-3 : tie.Need-slice-write-buffer-3
 slice-write-buffer-3 c = simp length-set (omega arith)
 
--- src/writing.rt:29:12
 add-buffer-3 : tie.Need-add-buffer-3
 add-buffer-3 c = search needs
 
--- src/writing.rt:29:5
 slice-write-buffer-4 : tie.Need-slice-write-buffer-4
 slice-write-buffer-4 c = simp length-set (omega arith)
 
--- src/writing.rt:22:1
 same-length : tie.Need-same-length
 same-length c = search needs
 
--- src/writing.rt:22:1
 returns : tie.Need-returns
 returns c = simp towards-suc
 

@@ -1,22 +1,18 @@
-use Prim.Native.Nat.{ℕ, _≤_, _<_, _+_, _-_, _*_}
 use mathlib.Core.Path.{_≡_, refl, sym, ap, _∙_}
+use mathlib.Core.List.{List, _∷_}
+use Prim.Native.Nat.{ℕ, _≤_, _<_, _+_, _-_, _*_, _^_, _/_}
 use native.Mathlib.Omega.{arith}
-use borrow.Author.Needs.{needs}
-use lib.ListN.{length, getD, set, length-append}
-use Prim.Native.Nat.{_^_, _/_}
-use mathlib.Core.List.{List, [], _∷_}
+use lib.ListN.{length, length-set}
 use lib.Seq.{sets}
-use lib.ListN.{length-set}
 use lib.Count.{trailingZeros}
 use mir.Val.{Fits}
 use mir.Syntax.{w16}
+use borrow.Author.Needs.{needs}
 use Rattle.table.specs.Writing.{edgeBytes}
 use Rattle.table.specs.Checking.{rowKeys}
 use Rattle.table.proofs.PutLaws.{next-bit, no-bits, put-key, no-edges}
 use Rattle.table.proofs.writing.put_row.Statement.{statement}
 use Rattle.table.proofs.writing.put_row.Tie as tie
-use Rattle.table.proofs.writing.put_row.Reads as reads
-use Rattle.table.proofs.writing.put_row.Lts as lts
 
 abbrev Inv-loop : tie.InvT-loop
 Inv-loop buffer₀ at u bits x₀ p₀ w₀ buffer x p w = (w ≤ 16) × (x < 2 ^ (16 - w)) × (length buffer ≡ length buffer₀) × (p + 2 * length (rowKeys (16 - w) u w x) ≡ at + 2 * length (rowKeys 16 u 0 bits)) × (sets buffer p (edgeBytes (rowKeys (16 - w) u w x)) ≡ sets buffer₀ at (edgeBytes (rowKeys 16 u 0 bits)))
@@ -24,11 +20,9 @@ Inv-loop buffer₀ at u bits x₀ p₀ w₀ buffer x p w = (w ≤ 16) × (x < 2 
 abbrev μ-loop : tie.MeasureT-loop
 μ-loop buffer₀ at u bits x₀ p₀ w₀ buffer x p w = 16 - w
 
--- src/writing.rt:55:5
 loop-holds : tie.Need-loop-holds Inv-loop μ-loop
 loop-holds c = let h : Fits w16 (c .args .bits) = search needs in (search needs, omega arith, refl, refl, refl)
 
--- src/writing.rt:57:9
 add-w : tie.Need-add-w Inv-loop μ-loop
 add-w c =
     let l = c .before .loop in
@@ -38,7 +32,9 @@ add-w c =
     let i = l .inv .3 in
     omega arith
 
--- src/writing.rt:58:9
+cast-to : tie.Need-cast-to Inv-loop μ-loop
+cast-to c = search needs
+
 slice-write-buffer : tie.Need-slice-write-buffer Inv-loop μ-loop
 slice-write-buffer c =
     let l = c .before .loop in
@@ -48,11 +44,6 @@ slice-write-buffer c =
     let i = l .inv .3 in
     omega arith
 
--- src/writing.rt:59:25
-cast-buffer : tie.Need-cast-buffer Inv-loop μ-loop
-cast-buffer c = search needs
-
--- src/writing.rt:59:16
 add-buffer : tie.Need-add-buffer Inv-loop μ-loop
 add-buffer c =
     let l = c .before .loop in
@@ -62,7 +53,6 @@ add-buffer c =
     let i = l .inv .3 in
     omega arith
 
--- src/writing.rt:59:9
 slice-write-buffer-2 : tie.Need-slice-write-buffer-2 Inv-loop μ-loop
 slice-write-buffer-2 c =
     let l = c .before .loop in
@@ -72,7 +62,6 @@ slice-write-buffer-2 c =
     let i = l .inv .3 in
     simp length-set (omega arith)
 
--- src/writing.rt:60:9
 add-p : tie.Need-add-p Inv-loop μ-loop
 add-p c =
     let l = c .before .loop in
@@ -82,7 +71,6 @@ add-p c =
     let i = l .inv .3 in
     omega arith
 
--- src/writing.rt:61:19
 cast-x : tie.Need-cast-x Inv-loop μ-loop
 cast-x c =
     let l = c .before .loop in
@@ -92,7 +80,6 @@ cast-x c =
     let i = l .inv .3 in
     omega arith
 
--- src/writing.rt:61:14
 shr-x : tie.Need-shr-x Inv-loop μ-loop
 shr-x c =
     let l = c .before .loop in
@@ -102,7 +89,6 @@ shr-x c =
     let i = l .inv .3 in
     omega arith
 
--- src/writing.rt:62:9
 add-w-2 : tie.Need-add-w-2 Inv-loop μ-loop
 add-w-2 c =
     let l = c .before .loop in
@@ -112,7 +98,6 @@ add-w-2 c =
     let i = l .inv .3 in
     omega arith
 
--- src/writing.rt:55:5
 loop-less : tie.Need-loop-less Inv-loop μ-loop
 loop-less c =
     let l = c .before .loop in
@@ -122,7 +107,6 @@ loop-less c =
     let i = l .inv .3 in
     omega arith
 
--- src/writing.rt:55:5
 loop-again : tie.Need-loop-again Inv-loop μ-loop
 loop-again c =
     let l = c .before .loop in
@@ -142,11 +126,9 @@ loop-again c =
       put-key (l .buffer) ks (l .p) (c .before .before .args .u) y (omega arith) ∙ ap (λ (k : List ℕ). sets (l .buffer) (l .p) (edgeBytes k)) (sym e) ∙ l .inv .4,
     )
 
--- src/writing.rt:48:1
 same-length : tie.Need-same-length Inv-loop μ-loop
 same-length c = c .before .loop .inv .2
 
--- src/writing.rt:48:1
 returns : tie.Need-returns Inv-loop μ-loop
 returns c =
     let l = c .before .loop in
@@ -163,8 +145,8 @@ put-row-spec =
     μ-loop
     loop-holds
     add-w
+    cast-to
     slice-write-buffer
-    cast-buffer
     add-buffer
     slice-write-buffer-2
     add-p

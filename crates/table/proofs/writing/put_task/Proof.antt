@@ -1,35 +1,24 @@
-use Rattle.table.proofs.PutLaws.{task-long, task-put}
-use Rattle.table.specs.Checking.{keysOf}
+use mathlib.Core.List.{[], _∷_}
+use mathlib.Core.Path.{_≡_, ap, _∙_}
+use Prim.Native.Nat.{ℕ, _%_}
+use native.Mathlib.Omega.{arith}
 use lib.Seq.{sets}
 use lib.ListN.{length}
-use Prim.Native.Nat.{ℕ, _%_}
-use mathlib.Core.List.{List, [], _∷_}
-use mathlib.Core.Path.{_≡_, ap, _∙_}
-use native.Mathlib.Omega.{arith}
 use borrow.Author.Needs.{needs}
+use Rattle.table.specs.Checking.{keysOf}
+use Rattle.table.proofs.PutLaws.{task-long, task-put}
 use Rattle.table.proofs.writing.put_task.Statement.{statement}
 use Rattle.table.proofs.writing.put_task.Tie as tie
-use Rattle.table.proofs.writing.put_task.Reads as reads
-use Rattle.table.proofs.writing.put_task.Lts as lts
-use Rattle.table.proofs.checking.edge_count.Reads as edge-count-reads
-use Rattle.table.proofs.writing.put4.Reads as put4-reads
-use Rattle.table.proofs.writing.put_costs.Reads as put-costs-reads
-use Rattle.table.proofs.writing.put_edges.Reads as put-edges-reads
-use Rattle.table.proofs.writing.put_head.Reads as put-head-reads
 
--- src/writing.rt:95:13
 cast-v : tie.Need-cast-v
 cast-v c = search needs
 
--- src/writing.rt:97:9
 edge-count-requires : tie.Need-edge-count-requires
 edge-count-requires c κs = search needs
 
--- src/writing.rt:98:46
 cast-put-head : tie.Need-cast-put-head
 cast-put-head c = search needs
 
--- src/writing.rt:98:5
 put-head-requires : tie.Need-put-head-requires
 put-head-requires c κs =
     let s = c .before .before .before .before .before in
@@ -41,11 +30,9 @@ put-head-requires c κs =
     let h = s .pre .1 in
     omega arith
 
--- src/writing.rt:99:24
 add-put4 : tie.Need-add-put4
 add-put4 c = search needs
 
--- src/writing.rt:99:5
 put4-requires : tie.Need-put4-requires
 put4-requires c κs =
     let s = c .before .before .before .before .before .before .before .before .before in
@@ -58,11 +45,9 @@ put4-requires c κs =
     let k0 = c .before .before .before .put-head .kept .0 in
     omega arith
 
--- src/writing.rt:100:24
 add-put4-2 : tie.Need-add-put4-2
 add-put4-2 c = search needs
 
--- src/writing.rt:100:5
 put4-requires-2 : tie.Need-put4-requires-2
 put4-requires-2 c κs =
     let s = c .before .before .before .before .before .before .before .before .before .before .before .before .before in
@@ -76,11 +61,9 @@ put4-requires-2 c κs =
     let k1 = c .before .before .before .put4 .kept .0 in
     omega arith
 
--- src/writing.rt:101:29
 add-put-costs : tie.Need-add-put-costs
 add-put-costs c = search needs
 
--- src/writing.rt:101:5
 put-costs-requires : tie.Need-put-costs-requires
 put-costs-requires c κs =
     let s = c .before .before .before .before .before .before .before .before .before .before .before .before .before .before .before .before .before in
@@ -95,19 +78,15 @@ put-costs-requires c κs =
     let k2 = c .before .before .before .put42 .kept .0 in
     (omega arith, omega arith)
 
--- src/writing.rt:102:29
 add-put-edges : tie.Need-add-put-edges
 add-put-edges c = search needs
 
--- src/writing.rt:102:39
 mul-put-edges : tie.Need-mul-put-edges
 mul-put-edges c = search needs
 
--- src/writing.rt:102:29
 add-put-edges-2 : tie.Need-add-put-edges-2
 add-put-edges-2 c = search needs
 
--- src/writing.rt:102:5
 put-edges-requires : tie.Need-put-edges-requires
 put-edges-requires c κs =
     let s = c .before .before .before .before .before .before .before .before .before .before .before .before .before .before .before .before .before .before .before .before .before in
@@ -123,11 +102,9 @@ put-edges-requires c κs =
     let k3 = c .before .before .before .put-costs .kept .0 in
     (omega arith, omega arith)
 
--- src/writing.rt:90:1
 same-length : tie.Need-same-length
 same-length c = search needs
 
--- src/writing.rt:90:1
 returns : tie.Need-returns
 returns c =
     let s = c .before .before .before .before .before .before .before .before .before .before .before .before .before .before .before .before .before .before .before .before .before .before .before .before in

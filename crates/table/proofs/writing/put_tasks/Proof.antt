@@ -1,10 +1,9 @@
-use Prim.Native.Nat.{ℕ, _≤_, _<_, _+_, _-_, _*_}
 use mathlib.Core.Path.{_≡_, refl, sym, ap, _∙_}
+use Prim.Native.Nat.{_≤_, _+_, _-_, _*_}
 use native.Mathlib.Omega.{arith}
-use borrow.Author.Needs.{needs}
-use lib.ListN.{length, getD, set, length-append}
-use mathlib.Core.List.{List, []}
+use lib.ListN.{length, length-append}
 use lib.Seq.{sets}
+use borrow.Author.Needs.{needs}
 use Rattle.graph.specs.Words.{inOrder}
 use Rattle.table.specs.Memory.{task, noTask}
 use Rattle.table.specs.Writing.{encodeTask}
@@ -13,9 +12,6 @@ use Rattle.table.proofs.Passed.{passed-n, passed-counts}
 use Rattle.table.proofs.PutLaws.{sets-then, tasksFrom, tasks-first, tasks-then, tasks-done}
 use Rattle.table.proofs.writing.put_tasks.Statement.{statement}
 use Rattle.table.proofs.writing.put_tasks.Tie as tie
-use Rattle.table.proofs.writing.put_tasks.Reads as reads
-use Rattle.table.proofs.writing.put_tasks.Lts as lts
-use Rattle.table.proofs.writing.put_task.Reads as put-task-reads
 
 abbrev Inv-loop : tie.InvT-loop
 Inv-loop buffer₀ table n p₀ i₀ buffer p i = (i ≤ n) × (length buffer ≡ length buffer₀) × (p + length (tasksFrom table i) ≡ 4 + length (inOrder (table .n) (encodeTask table))) × (sets buffer p (tasksFrom table i) ≡ sets buffer₀ 4 (inOrder (table .n) (encodeTask table)))
@@ -23,11 +19,9 @@ Inv-loop buffer₀ table n p₀ i₀ buffer p i = (i ≤ n) × (length buffer �
 abbrev μ-loop : tie.MeasureT-loop
 μ-loop buffer₀ table n p₀ i₀ buffer p i = n - i
 
--- src/writing.rt:110:13
 cast-n : tie.Need-cast-n Inv-loop μ-loop
 cast-n c = search needs
 
--- src/writing.rt:113:5
 loop-holds : tie.Need-loop-holds Inv-loop μ-loop
 loop-holds c =
     let t = c .before .args .t2 in
@@ -35,11 +29,9 @@ loop-holds c =
     let n = ap length e in
     (search needs, refl, omega arith, ap (sets (c .before .args .buffer .now) 4) e)
 
--- src/writing.rt:114:20
 mul-task : tie.Need-mul-task Inv-loop μ-loop
 mul-task c = search needs
 
--- src/writing.rt:114:20
 element-copy-out-task : tie.Need-element-copy-out-task Inv-loop μ-loop
 element-copy-out-task c =
     let l = c .before .loop in
@@ -48,11 +40,9 @@ element-copy-out-task c =
     let n = passed-n t (s .pre .0) in
     omega arith
 
--- src/writing.rt:115:59
 mul-put-task : tie.Need-mul-put-task Inv-loop μ-loop
 mul-put-task c = search needs
 
--- src/writing.rt:115:9
 put-task-requires : tie.Need-put-task-requires Inv-loop μ-loop
 unfolding task noTask
 put-task-requires c κs =
@@ -68,15 +58,12 @@ put-task-requires c κs =
     let h = s .pre .1 in
     ((k .v-high, k .e-high, omega arith), omega arith)
 
--- src/writing.rt:116:9
 add-i : tie.Need-add-i Inv-loop μ-loop
 add-i c = search needs
 
--- src/writing.rt:113:5
 loop-less : tie.Need-loop-less Inv-loop μ-loop
 loop-less c = search needs
 
--- src/writing.rt:113:5
 loop-again : tie.Need-loop-again Inv-loop μ-loop
 unfolding task noTask
 loop-again c =
@@ -97,11 +84,9 @@ loop-again c =
       sets-then bs (tasksFrom t (l .i + 1)) (l .buffer) (r .last .0) (l .p) (r .result) (r .ensures .0) q ∙ ap (sets (l .buffer) (l .p)) (sym w) ∙ l .inv .3,
     )
 
--- src/writing.rt:106:1
 same-length : tie.Need-same-length Inv-loop μ-loop
 same-length c = c .before .loop .inv .1
 
--- src/writing.rt:106:1
 returns : tie.Need-returns Inv-loop μ-loop
 returns c =
     let l = c .before .loop in

@@ -1,21 +1,16 @@
-use Rattle.table.proofs.WriteLaws.{says-refused, says-unused, says-room, says-done, kept-refused, kept-unused, kept-room, put-done}
-use Rattle.table.proofs.PutLaws.{file-long, file-put}
-use Rattle.table.proofs.Checks.{checked-length}
-use Rattle.table.specs.Checking.{checked}
+use mathlib.Core.Path.{_≡_, refl, sym, ap, _∙_}
+use native.Mathlib.Omega.{arith}
+use lib.ListN.{length}
+use borrow.Author.Tests.{not-true, not-false}
+use borrow.Author.Needs.{needs}
+use Rattle.table.specs.Checking.{checked, Typed}
 use Rattle.table.specs.declared.Checked.{Checked}
 use Rattle.table.specs.declared.Written.the-variants.{Done, Room}
 use Rattle.table.specs.declared.Outcome.the-variants.{Read}
-use borrow.Author.Tests.{not-true, not-false}
+use Rattle.table.proofs.WriteLaws.{says-refused, says-unused, says-room, says-done, kept-refused, kept-unused, kept-room, put-done}
+use Rattle.table.proofs.PutLaws.{file-long, file-put}
+use Rattle.table.proofs.Checks.{checked-length}
 use Rattle.table.proofs.TypedTable.{typed-table}
-use Prim.Native.Nat.{ℕ, _≤_, _<_, _+_, _*_}
-use mathlib.Core.Path.{_≡_, refl, sym, ap, _∙_}
-use native.Mathlib.Omega.{arith}
-use lib.ListN.{length, getD}
-use mir.Val.{Fits}
-use mir.Syntax.{w16, w32}
-use Rattle.table.specs.Memory.{noTask, task, D, T, succ, cost}
-use Rattle.table.specs.Checking.{Typed}
-use borrow.Author.Needs.{needs}
 use Rattle.table.proofs.writing.write.Statement.{statement}
 use Rattle.table.proofs.writing.write.Tie as tie
 use Rattle.table.proofs.writing.write.Reads as reads
@@ -32,14 +27,12 @@ Begun = lts.Start (check-reads.Asked, check-reads.Learnt, unused-zero-reads.Aske
 typed : (c : Begun) → Typed (c .args .table)
 typed c = typed-table (c .args .table) _ (c .good .0)
 
--- src/writing.rt:124:9
 check-requires : tie.Need-check-requires
 check-requires c κs = search needs
 
 enum-told : tie.Need-enum-told
 enum-told c = search needs
 
--- src/writing.rt:127:9
 returns : tie.Need-returns
 returns c =
     let s = c .before .before .before in
@@ -49,11 +42,9 @@ returns c =
     let w = says-refused t (typed s) (length l) (k .result .outcome) (ap (λ (r : Checked). r .outcome) (k .ensures)) (c .match .keys2) in
     (w, kept-refused t l _ w (k .result .outcome) refl)
 
--- src/writing.rt:129:9
 unused-zero-requires : tie.Need-unused-zero-requires
 unused-zero-requires c κs = search needs
 
--- src/writing.rt:130:9
 returns-2 : tie.Need-returns-2
 returns-2 c =
     let s = c .before .before .before .before .before .before in
@@ -65,7 +56,6 @@ returns-2 c =
     let w = says-unused t (typed s) (length l) ok (sym (c .before .unused-zero .ensures) ∙ not-true _ (c .if1 .taken)) in
     (w, kept-unused t l _ w refl)
 
--- src/writing.rt:134:9
 returns-3 : tie.Need-returns-3
 returns-3 c =
     let s = c .before .before .before .before .before .before .before in
@@ -78,7 +68,6 @@ returns-3 c =
     let w = ap Room n ∙ says-room t (typed s) (length l) ok z (omega arith) in
     (w, kept-room t l _ w (k .result .next) refl)
 
--- src/writing.rt:136:5
 put-head-requires : tie.Need-put-head-requires
 put-head-requires c κs =
     let s = c .before .before .before .before .before .before .before .before in
@@ -91,7 +80,6 @@ put-head-requires c κs =
     let f = file-long t in
     omega arith
 
--- src/writing.rt:137:5
 put-tasks-requires : tie.Need-put-tasks-requires
 put-tasks-requires c κs =
     let s = c .before .before .before .before .before .before .before .before .before .before .before .before in
@@ -105,11 +93,9 @@ put-tasks-requires c κs =
     let h = c .before .before .before .put-head .kept .0 in
     (ok, omega arith)
 
--- src/writing.rt:121:1
 same-length : tie.Need-same-length
 same-length c = search needs
 
--- src/writing.rt:121:1
 returns-4 : tie.Need-returns-4
 returns-4 c =
     let s = c .before .before .before .before .before .before .before .before .before .before .before .before .before .before .before in
