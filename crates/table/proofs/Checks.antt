@@ -24,11 +24,17 @@ use Rattle.table.specs.declared.TableRead.{TableRead}
 use Rattle.table.specs.declared.Checked.{Checked}
 use Rattle.table.specs.Memory.{noSucc, noCosts, noTasks, noRow, task, vertices, D, T, succ, cost}
 use Rattle.table.specs.Reading.{onward, whenRead, ranged, notUnder, periodAt, costsAt, addEdge, edgesAt, badTask, partsAt, taskAt, badTable, withTask, tasksAt, tableAt, refused, ending, read}
-use Rattle.table.specs.Writing.{bytes4, edgeKeys, edgeBytes, encodeTask, encode}
-use Rattle.table.specs.Checking.{Typed, stopped, keysOf, edgeTested, edgesTested, costsTested, usedRows, partsTested, taskTested, tasksTested, checked}
-use Rattle.table.proofs.Cells.{at-eq, mark-as, byte-as, ticks-as, four-next, edge-as}
-use Rattle.table.proofs.Keys.{Asc, keys-asc, keys-are}
-use Rattle.table.proofs.Rows.{addAll, rows-of-keys}
+use Rattle.table.specs.Writing.{bytes4, edgeBytes, encodeTask, encode}
+use Rattle.table.specs.Checking.{stopped, keysOf, edgeTested, edgesTested, costsTested, usedRows, partsTested, taskTested, tasksTested, checked}
+use Rattle.table.specs.Good.{Typed}
+use Rattle.table.proofs.Cells.{byte-as, ticks-as, edge-as}
+use Rattle.table.proofs.FieldForth.{at-eq, read-mark, next-four}
+use Rattle.table.proofs.Places.{task-length, at-mark, at-v, at-e, at-D, at-T, at-costs, at-edges}
+use Rattle.table.proofs.Went.{out-task, out-table}
+use Rattle.table.proofs.Keys.{keys-of-asc, keys-are}
+use Rattle.table.proofs.Ascending.{Asc}
+use Rattle.table.proofs.Rows.{rows-of-keys}
+use Rattle.table.proofs.Successors.{addAll}
 
 -- ---- a refusal is no success
 pub range-bad : (p : ℕ) → Range p ≡ Read → ⊥
@@ -113,14 +119,6 @@ edges-as v s (k ∷ ks) at low l r a e =
     go true i = (i .0, λ h. let j = i .1 h in let z = j .1 in (j .0, omega arith))
     go false i = (refl, λ h. absurd (edge-bad at h))
 
-out-task : (o : Outcome) → badTask o .outcome ≡ o
-unfolding badTask
-out-task o = refl
-
-out-table : (o : Outcome) → badTable o .outcome ≡ o
-unfolding badTable
-out-table o = refl
-
 module _ (t : Table) (typed : Typed t) where
   -- ---- costs
   costs-as : (s : List ℕ) (i k at j u : ℕ) (own r : List ℕ) → drop at s ≡ joinFrom k j (λ u. bytes4 (cost t i u)) ++ r
@@ -131,22 +129,15 @@ module _ (t : Table) (typed : Typed t) where
       let rest : List ℕ = joinFrom k (suc j) (λ u. bytes4 (cost t i u)) ++ r in
       let e₂ : drop at s ≡ bytes4 (cost t i j) ++ rest = e ∙ append-assoc (bytes4 (cost t i j)) (joinFrom k (suc j) (λ u. bytes4 (cost t i u))) r in
       let q : 16 * i + suc j ≡ 16 * i + j + 1 = omega arith in
-      rw (ticks-as s at (cost t i j) rest (typed .cost-fits i j) e₂)
+      rw (ticks-as s at (cost t i j) rest (typed .cost-word (16 * i + j)) e₂)
       (go (ranged Ticks 1 1000000 at (cost t i j))
-      (λ x. costs-as s i k (at + 4) (suc j) (u + 1) (set own u x) r (four-next s at (cost t i j) rest e₂) ∙ ap (costsTested (t .costs) k (at + 4)) q))
+      (λ x. costs-as s i k (at + 4) (suc j) (u + 1) (set own u x) r (next-four s at (cost t i j) rest e₂) ∙ ap (costsTested (t .costs) k (at + 4)) q))
     where
       go : (f : Field) → ((x : ℕ) → costsAt s k (at + 4) (u + 1) (set own u x) .outcome ≡ costsTested (t .costs) k (at + 4) (16 * i + j + 1))
           → onward f (λ o. record { outcome = o; costs = own }) (λ x. costsAt s k (at + 4) (u + 1) (set own u x)) .outcome
           ≡ onward f (λ o. o) (λ _. costsTested (t .costs) k (at + 4) (16 * i + j + 1))
       go (Stop o) h = refl
       go (Got x) h = h x
-
-  after-costs : (s : List ℕ) (i k at j : ℕ) (r : List ℕ) → drop at s ≡ joinFrom k j (λ u. bytes4 (cost t i u)) ++ r → drop (at + 4 * k) s ≡ r
-  unfolding joinFrom
-  after-costs s i zero at j r e = at-eq s at (at + 4 * 0) r (omega arith) e
-  after-costs s i (suc k) at j r e =
-      let e₂ = e ∙ append-assoc (bytes4 (cost t i j)) (joinFrom k (suc j) (λ u. bytes4 (cost t i u))) r in
-      at-eq s (at + 4 + 4 * k) (at + 4 * suc k) r (omega arith) (after-costs s i k (at + 4) (suc j) r (four-next s at (cost t i j) _ e₂))
 
   -- ---- a task
   module _ (s : List ℕ) (at i : ℕ) (r : List ℕ) (e : drop at s ≡ encodeTask t i ++ r) where
@@ -162,24 +153,27 @@ module _ (t : Table) (typed : Typed t) where
     abbrev end : ℕ
     end = at + 12 + 4 * v + 2 * length ks
 
+    -- where its fields stand
     b₀ : drop at s ≡ 0x54 ∷ 0x4B ∷ v ∷ length ks ∷ (bytes4 (D t i) ++ (bytes4 (T t i) ++ tail))
-    unfolding encodeTask inOrder
-    b₀ = rw (keys-are t i) (e ∙ simp append-assoc)
+    b₀ = rw (keys-are t i) (at-mark t s at i r e)
 
     b₂ : drop (at + 2) s ≡ v ∷ length ks ∷ (bytes4 (D t i) ++ (bytes4 (T t i) ++ tail))
-    b₂ = sym (drop-drop 2 at s) ∙ ap (drop 2) b₀
+    b₂ = rw (keys-are t i) (at-v t s at i r e)
 
     b₃ : drop (at + 3) s ≡ length ks ∷ (bytes4 (D t i) ++ (bytes4 (T t i) ++ tail))
-    b₃ = sym (drop-drop 3 at s) ∙ ap (drop 3) b₀
+    b₃ = rw (keys-are t i) (at-e t s at i r e)
 
     b₄ : drop (at + 4) s ≡ bytes4 (D t i) ++ (bytes4 (T t i) ++ tail)
-    b₄ = sym (drop-drop 4 at s) ∙ ap (drop 4) b₀
+    b₄ = rw (keys-are t i) (at-D t s at i r e)
 
     b₈ : drop (at + 8) s ≡ bytes4 (T t i) ++ tail
-    b₈ = at-eq s (at + 4 + 4) (at + 8) _ (omega arith) (four-next s (at + 4) (D t i) _ b₄)
+    b₈ = rw (keys-are t i) (at-T t s at i r e)
 
     b₁₂ : drop (at + 12) s ≡ tail
-    b₁₂ = at-eq s (at + 8 + 4) (at + 12) _ (omega arith) (four-next s (at + 8) (T t i) _ b₈)
+    b₁₂ = rw (keys-are t i) (at-costs t s at i r e)
+
+    bₑ : drop (at + 12 + 4 * v) s ≡ edgeBytes ks ++ r
+    bₑ = rw (keys-are t i) (at-edges t s at i r e)
 
     abbrev TaskAgree : TaskRead → Checked → ℕ → Type 0
     TaskAgree = Agree (λ (x : TaskRead). x .outcome) (λ (x : TaskRead). x .next) badTask out-task
@@ -192,11 +186,11 @@ module _ (t : Table) (typed : Typed t) where
         let z : 16 * i + 0 ≡ 16 * i = add-zero (16 * i) in
         let c : costsAt s v (at + 12) 0 noCosts .outcome ≡ costsTested (t .costs) v (at + 12) (16 * i) =
         costs-as s i v (at + 12) 0 0 noCosts (edgeBytes ks ++ r) b₁₂ ∙ ap (costsTested (t .costs) v (at + 12)) z in
-        let g = edges-as v s ks (at + 12 + 4 * v) 0 noSucc r (keys-asc v (succ t i)) (after-costs s i v (at + 12) 0 (edgeBytes ks ++ r) b₁₂) in
+        let g = edges-as v s ks (at + 12 + 4 * v) 0 noSucc r (keys-of-asc v (succ t i)) bₑ in
         rw c (agree-when out next badTask out-task (costsTested (t .costs) v (at + 12) (16 * i)) end _ _ (λ _.
         rw (g .0) (agree-when out next badTask out-task (edgesTested v ks (at + 12 + 4 * v) .outcome) end _ _ (λ h.
         let j = g .1 h in
-        rw (j .0, rows-of-keys v (succ t i) hv (typed .succ-fits i))
+        rw (j .0, rows-of-keys v (succ t i) hv (typed .small i))
         (agree-cycle out next badTask out-task (acyclic (usedRows v (succ t i))) at end _ _ (refl, λ _. (refl, j .1)))))))
 
     -- A TASK IS REFUSED WHERE A READER REFUSES IT
@@ -205,35 +199,17 @@ module _ (t : Table) (typed : Typed t) where
     task-as =
         let out : TaskRead → Outcome = λ (x : TaskRead). x .outcome in
         let next : TaskRead → ℕ = λ (x : TaskRead). x .next in
-        rw (mark-as 0x4B s at _ b₀, byte-as 1 16 s (at + 2) v _ b₂)
+        rw (read-mark 0x4B s at _ b₀, byte-as 1 16 s (at + 2) v _ b₂)
         (agree-ranged out next badTask out-task Range range-bad 1 16 (at + 2) v end _ _ (λ l₁ h₁.
         rw (byte-as 0 120 s (at + 3) (length ks) _ b₃)
         (agree-ranged out next badTask out-task Range range-bad 0 120 (at + 3) (length ks) end _ _ (λ l₂ h₂.
-        rw (ticks-as s (at + 4) (D t i) _ (typed .D-fits i) b₄)
+        rw (ticks-as s (at + 4) (D t i) _ (typed .D-word i) b₄)
         (agree-ranged out next badTask out-task Ticks ticks-bad 1 1000000 (at + 4) (D t i) end _ _ (λ l₃ h₃.
-        rw (ticks-as s (at + 8) (T t i) _ (typed .T-fits i) b₈)
+        rw (ticks-as s (at + 8) (T t i) _ (typed .T-word i) b₈)
         (agree-period out next badTask out-task (D t i) (at + 8) (T t i) end _ _ (parts-as (D t i) (T t i) h₁))))))))
 
-  -- ---- lengths
-  costs-long : (i k j : ℕ) → length (joinFrom k j (λ u. bytes4 (cost t i u))) ≡ 4 * k
-  unfolding joinFrom bytes4
-  costs-long i zero j = refl
-  costs-long i (suc k) j = let h = costs-long i k (suc j) in omega arith
-
-  edges-long : (ks : List ℕ) → length (edgeBytes ks) ≡ 2 * length ks
-  unfolding edgeBytes
-  edges-long [] = refl
-  edges-long (k ∷ ks) = let h = edges-long ks in omega arith
-
-  pub task-length : (i : ℕ) → length (encodeTask t i) ≡ 12 + 4 * vertices t i + 2 * length (keysOf (vertices t i) (succ t i))
-  unfolding encodeTask inOrder bytes4
-  task-length i =
-      let a = length-append (bytes4 (D t i) ++ bytes4 (T t i) ++ joinFrom (vertices t i) 0 (λ u. bytes4 (cost t i u))) (edgeBytes (edgeKeys t i)) in
-      let b = length-append (bytes4 (D t i) ++ bytes4 (T t i)) (joinFrom (vertices t i) 0 (λ u. bytes4 (cost t i u))) in
-      let c = costs-long i (vertices t i) 0 in
-      let d = edges-long (edgeKeys t i) in
-      let k = ap length (keys-are t i) in
-      omega arith
+  how-long : (i : ℕ) → length (encodeTask t i) ≡ 12 + 4 * vertices t i + 2 * length (keysOf (vertices t i) (succ t i))
+  how-long i = let l = task-length t i 0 in let k = ap length (keys-are t i) in omega arith
 
   -- ---- the tasks
   abbrev TableAgree : TableRead → Checked → ℕ → Type 0
@@ -255,7 +231,7 @@ module _ (t : Table) (typed : Typed t) where
       let js : List ℕ = joinFrom k (suc i) (encodeTask t) in
       let e′ : drop at s ≡ encodeTask t i ++ (js ++ r) = e ∙ append-assoc (encodeTask t i) js r in
       let a = task-as s at i (js ++ r) e′ in
-      let l = task-length i in
+      let l = how-long i in
       let m = length-append (encodeTask t i) js in
       let nx : ℕ = at + 12 + 4 * vertices t i + 2 * length (keysOf (vertices t i) (succ t i)) in
       let d : drop nx s ≡ joinFrom k (i + 1) (encodeTask t) ++ r =
@@ -277,7 +253,7 @@ module _ (t : Table) (typed : Typed t) where
       let E : List ℕ = joinFrom (t .n) 0 (encodeTask t) in
       let s : List ℕ = 0x54 ∷ 0x42 ∷ t .m ∷ t .n ∷ E in
       let q : 4 + length E ≡ length s = omega arith in
-      rw (mark-as 0x42 s 0 (t .m ∷ t .n ∷ E) refl, byte-as 1 8 s 2 (t .m) (t .n ∷ E) refl)
+      rw (read-mark 0x42 s 0 (t .m ∷ t .n ∷ E) refl, byte-as 1 8 s 2 (t .m) (t .n ∷ E) refl)
       (agree-ranged out next badTable out-table Range range-bad 1 8 2 (t .m) _ _ _ (λ l₁ h₁.
       rw (byte-as 1 16 s 3 (t .n) E refl)
       (agree-ranged out next badTable out-table Range range-bad 1 16 3 (t .n) _ _ _ (λ l₂ h₂.

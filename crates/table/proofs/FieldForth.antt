@@ -69,7 +69,7 @@ digits x a b c d h h₀ h₁ h₂ h₃ =
     join : (x y z w a b c d : ℕ) → x ≡ a + 256 * y → y ≡ b + 256 * z → z ≡ c + 256 * w → d ≡ w → a + 256 * b + 65536 * c + 16777216 * d ≡ x
     join x y z w a b c d e f g h = omega arith
 
-four-in : (s : List ℕ) (at x : ℕ) (r : List ℕ) → drop at s ≡ bytes4 x ++ r → at + 4 ≤ length s
+pub four-in : (s : List ℕ) (at x : ℕ) (r : List ℕ) → drop at s ≡ bytes4 x ++ r → at + 4 ≤ length s
 unfolding bytes4
 four-in s at x r e = let n : length (drop at s) ≡ 4 + length r = ap length e ∙ omega arith in let l = length-drop at s in omega arith
 

@@ -1,8 +1,8 @@
 -- The edges vertex by vertex are the table's edges in order: `keysOf` is `edgeKeys`. How many they are, and that they ascend.
 use mathlib.Core.Path.{_≡_, refl, sym, ap, _∙_}
 use mathlib.Core.Bool.{Bool, true, false}
-use mathlib.Core.List.{List, [], _∷_, _++_}
-use Prim.Native.Nat.{ℕ, zero, suc, _+_, _*_, _/_, _%_, _^_, _≤_, _<_}
+use mathlib.Core.List.{List, _++_}
+use Prim.Native.Nat.{ℕ, zero, suc, _+_, _*_, _/_, _%_, _^_, _<_}
 use native.Mathlib.Omega.{arith}
 use native.Mathlib.Numerals.{one-add}
 use native.Mathlib.Nat.{add-zero, zero-add, div-one}
@@ -16,6 +16,7 @@ use Rattle.table.specs.declared.Table.{Table}
 use Rattle.table.specs.Memory.{vertices, succ, edgeIn}
 use Rattle.table.specs.Writing.{edgeKeys}
 use Rattle.table.specs.Checking.{rowKeys, keysOf}
+use Rattle.table.proofs.Ascending.{Asc, keys-asc}
 
 -- bit 0, and the bits above it
 pub bit-low : (x : ℕ) → bit x 0 ≡ eqb (x % 2) 1
@@ -111,25 +112,7 @@ row-many (suc k) u w x h =
     also-many (x % 2) (16 * u + w) k (rowKeys k u (w + 1) (x / 2)) (omega arith)
     ∙ ap (λ (n : ℕ). x % 2 + n) (row-many k u (w + 1) (x / 2) (omega arith)) ∙ sym (ones-step x)
 
--- ---- they ascend
-unfoldable pub Asc : ℕ → ℕ → List ℕ → Type 0
-Asc low top [] = Unit {0}
-Asc low top (k ∷ ks) = (low ≤ k) × (k < top) × Asc (suc k) top ks
-
-asc-weaken : (low low′ top : ℕ) (ks : List ℕ) → low′ ≤ low → Asc low top ks → Asc low′ top ks
-unfolding Asc
-asc-weaken low low′ top [] q h = tt
-asc-weaken low low′ top (k ∷ ks) q h = let a = h .0 in (omega arith, h .1, h .2)
-
-those-asc : (p : ℕ → Bool) (n a top : ℕ) → top ≡ a + n → Asc a top (those p (rowFrom n a (λ j. j)))
-unfolding those rowFrom Asc alsoIf
-those-asc p zero a top t = tt
-those-asc p (suc n) a top t = go (p a) (those-asc p n (suc a) top (omega arith))
-  where
-    go : (b : Bool) → Asc (suc a) top (those p (rowFrom n (suc a) (λ j. j))) → Asc a top (alsoIf b a (those p (rowFrom n (suc a) (λ j. j))))
-    go true h = (omega arith, omega arith, h)
-    go false h = asc-weaken (suc a) a top (those p (rowFrom n (suc a) (λ j. j))) (omega arith) h
-
-pub keys-asc : (v : ℕ) (succ : List ℕ) → Asc 0 (16 * v) (keysOf v succ)
+-- they ascend
+pub keys-of-asc : (v : ℕ) (succ : List ℕ) → Asc 0 (16 * v) (keysOf v succ)
 unfolding thoseBelow row
-keys-asc v succ = rw (keys-below succ v) (those-asc (led succ) (16 * v) 0 (16 * v) (omega arith))
+keys-of-asc v succ = rw (keys-below succ v) (keys-asc (led succ) (16 * v) 0 (16 * v) (omega arith))

@@ -1,5 +1,5 @@
 -- A table that the tests 3 to 7 let through: its counts are in their ranges.
-use mathlib.Core.Path.{_≡_, refl}
+use mathlib.Core.Path.{_≡_, refl, sym, ap, _∙_}
 use mathlib.Core.Bool.{Bool, true, false, _&&_}
 use Prim.Native.Nat.{ℕ, zero, suc, _+_, _*_, _≤_, _<_}
 use native.Mathlib.Omega.{arith}
@@ -12,13 +12,18 @@ use Rattle.graph.proofs.Facts.{both-true}
 use Rattle.table.specs.declared.Task.{Task}
 use Rattle.table.specs.declared.Table.{Table}
 use Rattle.table.specs.declared.Outcome.{Outcome}
-use Rattle.table.specs.declared.Outcome.the-variants.{Read, Short, Mark, Range, Ticks, Order, Edge, Cycle, Extra}
+use Rattle.table.specs.declared.Outcome.the-variants.{Read, Range}
 use Rattle.table.specs.declared.Field.the-variants.{Stop, Got}
 use Rattle.table.specs.declared.Checked.{Checked}
 use Rattle.table.specs.Memory.{task, succ}
 use Rattle.table.specs.Reading.{onward, whenRead, ranged}
 use Rattle.table.specs.Checking.{stopped, keysOf, taskTested, tasksTested, checked}
 use Rattle.table.proofs.Checks.{range-bad}
+use Rattle.table.proofs.FieldViews.{went}
+
+out-stopped : (o : Outcome) → stopped o .outcome ≡ o
+unfolding stopped
+out-stopped o = refl
 
 -- a field that was let through is in its range, and what follows it was let through
 past-range : (lo hi at x : ℕ) (g : ℕ → Checked) → onward (ranged Range lo hi at x) stopped g .outcome ≡ Read → (x ≤ hi) × (g x .outcome ≡ Read)
@@ -30,16 +35,9 @@ past-range lo hi at x g = go (leb lo x && leb x hi) refl
     go false e h = absurd (range-bad at h)
 
 past-part : (o : Outcome) (g : Unit {0} → Checked) → whenRead o stopped g .outcome ≡ Read → (o ≡ Read) × (g tt .outcome ≡ Read)
-unfolding stopped
-past-part Read g h = (refl, h)
-past-part (Short p) g h = let z : _≡_ {A = ℕ} 0 1 = cc in absurd (omega arith)
-past-part (Mark p) g h = let z : _≡_ {A = ℕ} 0 1 = cc in absurd (omega arith)
-past-part (Range p) g h = let z : _≡_ {A = ℕ} 0 1 = cc in absurd (omega arith)
-past-part (Ticks p) g h = let z : _≡_ {A = ℕ} 0 1 = cc in absurd (omega arith)
-past-part (Order p) g h = let z : _≡_ {A = ℕ} 0 1 = cc in absurd (omega arith)
-past-part (Edge p) g h = let z : _≡_ {A = ℕ} 0 1 = cc in absurd (omega arith)
-past-part (Cycle p) g h = let z : _≡_ {A = ℕ} 0 1 = cc in absurd (omega arith)
-past-part (Extra p) g h = let z : _≡_ {A = ℕ} 0 1 = cc in absurd (omega arith)
+past-part o g h =
+    let w = went (λ (c : Checked). c .outcome) stopped out-stopped o g (whenRead o stopped g) h refl in
+    (w .0, sym (ap (λ (c : Checked). c .outcome) (w .1)) ∙ h)
 
 -- v and e of a task
 pub record Counts (a : Task) : Type 0 where

@@ -24,12 +24,12 @@ after-edges s [] at r e = at-eq s at (at + 2 * 0) r (omega arith) e
 after-edges s (k ∷ ks) at r e =
     at-eq s (at + 2 + 2 * length ks) (at + 2 * suc (length ks)) r (omega arith) (after-edges s ks (at + 2) r (sym (drop-drop 2 at s) ∙ ap (drop 2) e))
 
-costs-long : (k j : ℕ) (f : ℕ → ℕ) → length (joinFrom k j (λ u. bytes4 (f u))) ≡ 4 * k
+pub costs-long : (k j : ℕ) (f : ℕ → ℕ) → length (joinFrom k j (λ u. bytes4 (f u))) ≡ 4 * k
 unfolding joinFrom bytes4
 costs-long zero j f = refl
 costs-long (suc k) j f = let h = costs-long k (suc j) f in omega arith
 
-edges-long : (ks : List ℕ) → length (edgeBytes ks) ≡ 2 * length ks
+pub edges-long : (ks : List ℕ) → length (edgeBytes ks) ≡ 2 * length ks
 unfolding edgeBytes
 edges-long [] = refl
 edges-long (k ∷ ks) = let h = edges-long ks in omega arith

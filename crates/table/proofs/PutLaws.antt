@@ -16,6 +16,7 @@ use Rattle.table.specs.Memory.{task, vertices, D, T, succ, cost}
 use Rattle.table.specs.Writing.{bytes4, edgeBytes, encodeTask, encode}
 use Rattle.table.specs.Checking.{rowKeys, keysOf, costBytes, taskBytes}
 use Rattle.table.proofs.Keys.{keys-are}
+use Rattle.table.proofs.Places.{costs-long, edges-long}
 use Rattle.table.proofs.TestLaws.{join-next, join-end, keysFrom, keys-next}
 
 -- ---- part after part
@@ -126,11 +127,6 @@ unfolding edgeBytes
 edges-join [] ys = refl
 edges-join (k ∷ xs) ys = ap (λ (l : List ℕ). k / 16 ∷ k % 16 ∷ l) (edges-join xs ys)
 
-pub edges-long : (ks : List ℕ) → length (edgeBytes ks) ≡ 2 * length ks
-unfolding edgeBytes
-edges-long [] = refl
-edges-long (k ∷ ks) = let h = edges-long ks in omega arith
-
 -- the edges from vertex u on: those of u, and those from the next
 pub rows-bytes : (v : ℕ) (succ : List ℕ) (u : ℕ) → u < v
     → edgeBytes (keysFrom v succ u) ≡ edgeBytes (rowKeys 16 u 0 (getD succ u 0)) ++ edgeBytes (keysFrom v succ (u + 1))
@@ -140,22 +136,17 @@ pub rows-long : (v : ℕ) (succ : List ℕ) (u : ℕ) → u < v → length (keys
 rows-long v succ u h = ap length (keys-next v succ u h) ∙ length-append (rowKeys 16 u 0 (getD succ u 0)) (keysFrom v succ (u + 1))
 
 -- ---- a task record
-costs-long : (costs : List ℕ) (slot k j : ℕ) → length (joinFrom k j (λ u. bytes4 (getD costs (slot + u) 0))) ≡ 4 * k
-unfolding joinFrom bytes4
-costs-long costs slot zero j = refl
-costs-long costs slot (suc k) j = let h = costs-long costs slot k (suc j) in omega arith
-
 pub task-long : (a : Task) (costs : List ℕ) (slot : ℕ) → length (taskBytes a costs slot) ≡ 12 + 4 * a .v + 2 * length (keysOf (a .v) (a .succ))
 unfolding taskBytes costBytes inOrder bytes4
 task-long a costs slot =
-    let c = costs-long costs slot (a .v) 0 in
+    let c = costs-long (a .v) 0 (λ u. getD costs (slot + u) 0) in
     let d = edges-long (keysOf (a .v) (a .succ)) in
     let e = length-append (joinFrom (a .v) 0 (λ u. bytes4 (getD costs (slot + u) 0))) (edgeBytes (keysOf (a .v) (a .succ))) in
     omega arith
 
 cost-long : (costs : List ℕ) (slot v : ℕ) → length (costBytes costs slot v) ≡ 4 * v
 unfolding costBytes inOrder
-cost-long costs slot v = costs-long costs slot v 0
+cost-long costs slot v = costs-long v 0 (λ u. getD costs (slot + u) 0)
 
 -- its five parts, one after the other
 pub task-put : (a : Task) (costs l l₁ l₂ l₃ l₄ l₅ : List ℕ) (slot at : ℕ)

@@ -11,7 +11,7 @@ use lib.ListN.{length, getD, set, length-set, replicate}
 use lib.Seq.{ext-getD, getD-set-same, getD-set-other}
 use lib.Pow.{pow-pos, pow-mono}
 use lib.Dec.{ltb, leb, eqb}
-use borrow.Author.Tests.{eqb-true, lt-leb, le-leb, lt-ltb, le-ltb, eq-eqb, ne-eqb}
+use borrow.Author.Tests.{eqb-true, lt-leb, lt-ltb, le-ltb, eq-eqb, ne-eqb}
 use Rattle.graph.specs.Words.{pick, bit, rowFrom, row, alsoIf, joinFrom, inOrder}
 use Rattle.graph.proofs.Facts.{length-row, row-at}
 use Rattle.table.specs.declared.Outcome.{Outcome}
@@ -21,6 +21,8 @@ use Rattle.table.specs.declared.Checked.{Checked}
 use Rattle.table.specs.Reading.{onward, whenRead, ranged}
 use Rattle.table.specs.Checking.{stopped, rowKeys, keysOf, edgeTested, edgesTested, costsTested, usedRows}
 use Rattle.table.proofs.Keys.{bit-low, bit-up}
+use Rattle.table.proofs.Edges.{slot}
+use Rattle.table.proofs.FieldLaws.{ranged-low, ranged-got}
 
 -- ---- parts joined in order: the next one, and the end
 pub join-next : (f : ℕ → List ℕ) (n u : ℕ) → u < n → joinFrom (n - u) u f ≡ f u ++ joinFrom (n - (u + 1)) (u + 1) f
@@ -52,16 +54,14 @@ keys-end v succ u h = join-end _ v u h
 -- ---- a number held to its range
 module _ (outside : ℕ → Outcome) (lo hi at x : ℕ) where
   pub under : x < lo → ranged outside lo hi at x ≡ Stop (outside at)
-  unfolding ranged
-  under h = rw (lt-leb lo x h)
+  under h = sym (ranged-low outside lo hi at x h)
 
   pub over : hi < x → ranged outside lo hi at x ≡ Stop (outside at)
   unfolding ranged
   over h = rw (lt-leb x hi h, and-false (leb lo x))
 
   pub within : lo ≤ x → x ≤ hi → ranged outside lo hi at x ≡ Got x
-  unfolding ranged
-  within h k = rw (le-leb lo x h, le-leb x hi k)
+  within h k = sym (ranged-got outside lo hi at x h k)
 
 -- ---- costs
 module _ (costs : List ℕ) (k j p slot : ℕ) (e : k ≡ suc j) where
@@ -82,24 +82,18 @@ unfolding costsTested
 costs-end costs k p slot e = rw e
 
 -- ---- an edge
-key-from : (u w : ℕ) → w < 16 → (16 * u + w) / 16 ≡ u
-key-from u w h = omega arith
-
-key-to : (u w : ℕ) → w < 16 → (16 * u + w) % 16 ≡ w
-key-to u w h = omega arith
-
 module _ (v u w at : ℕ) (b : w < 16) where
   pub to-high : v ≤ w → edgeTested v (16 * u + w) at ≡ Stop (Edge at)
   unfolding edgeTested
-  to-high h = rw (key-to u w b, le-ltb w v h)
+  to-high h = rw (slot u w b .1, le-ltb w v h)
 
   pub to-same : u ≡ w → edgeTested v (16 * u + w) at ≡ Stop (Edge at)
   unfolding edgeTested
-  to-same h = rw (key-to u w b, key-from u w b, eq-eqb u w h, and-false (ltb w v))
+  to-same h = rw (slot u w b .1, slot u w b .0, eq-eqb u w h, and-false (ltb w v))
 
   pub to-other : w < v → (u ≡ w → ⊥) → edgeTested v (16 * u + w) at ≡ Got (16 * u + w)
   unfolding edgeTested
-  to-other h n = rw (key-to u w b, key-from u w b, lt-ltb w v h, ne-eqb u w n)
+  to-other h n = rw (slot u w b .1, slot u w b .0, lt-ltb w v h, ne-eqb u w n)
 
 -- ---- the edges of a vertex, bit by bit
 module _ (v k j u w x p : ℕ) (e : k ≡ suc j) (b : w < 16) where

@@ -13,7 +13,8 @@ use Rattle.table.specs.declared.Written.{Written}
 use Rattle.table.specs.declared.Written.the-variants.{Done, Refused, Unused, Room}
 use Rattle.table.specs.Reading.{read}
 use Rattle.table.specs.Writing.{encode, unusedZero, writing, frontOf, written}
-use Rattle.table.specs.Checking.{Typed, checked}
+use Rattle.table.specs.Checking.{checked}
+use Rattle.table.specs.Good.{Typed}
 use Rattle.table.proofs.Otherwise.{NotRead, otherwise}
 use Rattle.table.proofs.Checks.{checked-is, checked-length}
 use Rattle.table.proofs.PutLaws.{sets-front}

@@ -1,10 +1,12 @@
 -- The writer's tests 3 to 7 on the table itself, in file order, each at the place that its field has in the file. They refuse
 -- "exactly as a reader would for the bytes that the table stands for": theorem `checked-is`, proofs/Checks.antt.
-use mathlib.Core.Bool.{Bool, true, false, _&&_, _||_, not}
+use mathlib.Core.Bool.{Bool, _&&_, _||_, not}
 use mathlib.Core.List.{List, [], _∷_, _++_}
-use Prim.Native.Nat.{ℕ, zero, suc, _+_, _*_, _/_, _%_, _^_, _<_}
+use Prim.Native.Nat.{ℕ, zero, suc, _+_, _*_, _/_, _%_}
 use lib.ListN.{length, getD}
 use lib.Dec.{ltb, eqb}
+use Rattle.graph.specs.Words.{pick, all, row, alsoIf, inOrder}
+use Rattle.graph.specs.Graph.{acyclic}
 use Rattle.table.specs.declared.Task.{Task}
 use Rattle.table.specs.declared.Table.{Table}
 use Rattle.table.specs.declared.Outcome.{Outcome}
@@ -12,18 +14,9 @@ use Rattle.table.specs.declared.Outcome.the-variants.{Read, Range, Ticks
 use Rattle.table.specs.declared.Checked.{Checked}
 use Rattle.table.specs.declared.Field.{Field}
 use Rattle.table.specs.declared.Field.the-variants.{Stop, Got}
-use Rattle.graph.specs.Words.{pick, all, row, alsoIf, inOrder}
-use Rattle.graph.specs.Graph.{acyclic}
-use Rattle.table.specs.Memory.{task, D, T, succ, cost}
+use Rattle.table.specs.Memory.{task, D, T, succ}
 use Rattle.table.specs.Reading.{onward, whenRead, ranged, notUnder}
 use Rattle.table.specs.Writing.{bytes4, edgeBytes}
-
--- the numbers of a table are numbers of their types: 32 bits for D, T and a cost, sixteen bits for a vertex's successors
-pub record Typed (t : Table) : Type 0 where
-  pub D-fits : (i : ℕ) → D t i < 2 ^ 32
-  pub T-fits : (i : ℕ) → T t i < 2 ^ 32
-  pub cost-fits : (i u : ℕ) → cost t i u < 2 ^ 32
-  pub succ-fits : (i u : ℕ) → getD (succ t i) u 0 < 2 ^ 16
 
 unfoldable pub stopped : Outcome → Checked
 stopped o = record { outcome = o; next = 0 }

@@ -8,7 +8,8 @@ use borrow.Author.Needs.{needs}
 use Rattle.table.specs.Writing.{edgeBytes}
 use Rattle.table.specs.Checking.{rowKeys, keysOf}
 use Rattle.table.proofs.TestLaws.{keysFrom, keys-start, keys-end}
-use Rattle.table.proofs.PutLaws.{sets-then, rows-bytes, rows-long, edges-long, no-edges}
+use Rattle.table.proofs.PutLaws.{sets-then, rows-bytes, rows-long, no-edges}
+use Rattle.table.proofs.Places.{edges-long}
 use Rattle.table.proofs.writing.put_edges.Statement.{statement}
 use Rattle.table.proofs.writing.put_edges.Tie as tie
 

@@ -3,7 +3,8 @@ use native.Mathlib.Omega.{arith}
 use lib.ListN.{length}
 use borrow.Author.Tests.{not-true, not-false}
 use borrow.Author.Needs.{needs}
-use Rattle.table.specs.Checking.{checked, Typed}
+use Rattle.table.specs.Checking.{checked}
+use Rattle.table.specs.Good.{Typed}
 use Rattle.table.specs.declared.Checked.{Checked}
 use Rattle.table.specs.declared.Written.the-variants.{Done, Room}
 use Rattle.table.specs.declared.Outcome.the-variants.{Read}
