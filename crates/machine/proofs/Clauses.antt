@@ -56,7 +56,7 @@ module _ (t : Table) (st : State) (i : ℕ) where
   unfolding wholeBehind
   whole-behind h u b e = eqb-true (remaining st i u) (cost t i u) (either (clear t st i u) _ (all-at (vertices t i) _ h u b) e)
 
-  live-fits : fitsLive t st i ≡ true → LiveFits t st i
+  pub live-fits : fitsLive t st i ≡ true → LiveFits t st i
   unfolding fitsLive
   live-fits h =
       let a₁ = both-true _ (wholeBehind t st i) h in
@@ -92,7 +92,7 @@ module _ (t : Table) (st : State) (i : ℕ) where
   flip : {c : Bool} → c ≡ false → not c ≡ true
   flip h = rw h refl
 
-  within-of : LiveFits t st i → withinCost t st i ≡ true
+  pub within-of : LiveFits t st i → withinCost t st i ≡ true
   unfolding withinCost
   within-of f = all-of 16 _ (λ u b. go u b (decLt u (vertices t i)))
     where

@@ -10,8 +10,6 @@ use Rattle.table.proofs.reading.table_at.Kinds as table-at-kinds
 use Rattle.table.proofs.reading.table_at.Reads as table-at-reads
 use Rattle.table.proofs.reading.read.Kinds as read-kinds
 use Rattle.table.proofs.reading.read.Reads as read-reads
-use Rattle.table.proofs.writing.write.Kinds as write-kinds
-use Rattle.table.proofs.writing.write.Reads as write-reads
 
 -- a contract of a function with n lifetimes allows one result at most, for any arguments
 abbrev pub OneResult : (n : ℕ) (ps : List (PK n)) (r : RK n) → Out n ps r → Type 0
@@ -23,11 +21,3 @@ table-at-one κs args x y s t = by-definition
 
 pub read-one : OneResult 1 read-kinds.ps read-kinds.r read-reads.Post
 read-one κs args x y s t = by-definition
-
-pub write-one : OneResult 1 write-kinds.ps write-kinds.r write-reads.Post
-write-one κs args x y s t p q = by-definition (p .0) (q .0)
-
--- and the buffer that it lends holds one thing afterwards
-pub write-one-buffer : (κs : Lfts 1) (args : Dens κs write-kinds.ps) (x y : resT write-kinds.r κs .Denot) (s t : AtExit (endedOf 1 write-kinds.ps write-kinds.r) κs)
-    → write-reads.Post κs args x s → write-reads.Post κs args y t → s .1 .0 .now ≡ t .1 .0 .now
-write-one-buffer κs args x y s t p q = by-definition (p .1) (q .1)

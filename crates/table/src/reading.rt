@@ -71,15 +71,17 @@ fn parts_at(bytes: &[u8], at: usize, v: u32, e: u32, d: u32, t: u32) -> TaskRead
     let succ = g.succ;
     if graph::is_acyclic(succ) {
         let costs = c.costs;
+        let next = from + 2 * (e as usize);
+        let vertices = v as u8;
         let task = Task {
-            v: v as u8,
+            v: vertices,
             d: d,
             t: t,
             succ: succ,
         };
         return TaskRead {
             outcome: Outcome::Read,
-            next: from + 2 * (e as usize),
+            next: next,
             task: task,
             costs: costs,
         };
@@ -168,9 +170,11 @@ fn tasks_at(bytes: &[u8], at: usize, m: u32, n: u32) -> TableRead
         p = r.next;
         i += 1;
     }
+    let processors = m as u8;
+    let count = n as u8;
     let table = Table {
-        m: m as u8,
-        n: n as u8,
+        m: processors,
+        n: count,
         tasks: tasks,
         costs: costs,
     };

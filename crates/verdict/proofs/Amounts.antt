@@ -1,21 +1,21 @@
 -- vol, len and due of a good table: their ranges, and vol ≥ len, due ≥ vol. All are far below 2 ^ 63, so no sum of them wraps.
-use mathlib.Core.Path.{_≡_, refl, sym, ap, _∙_}
+use mathlib.Core.Path.{_≡_, refl, ap, _∙_}
 use mathlib.Core.Bool.{Bool, true, false}
 use mathlib.Core.List.{List, [], _∷_}
 use Prim.Native.Nat.{ℕ, zero, suc, _+_, _*_, _-_, _/_, _≤_, _<_}
 use native.Mathlib.Omega.{arith}
-use native.Mathlib.Nat.{mul-suc, mul-add, mul-comm, mul-le-mul, mul-le-mul-left, mul-le-mul-right, div-eq-of-lt, div-le-of-le-mul, div-eq-of-lt-le}
+use native.Mathlib.Nat.{mul-suc, mul-le-mul, mul-le-mul-left, mul-le-mul-right, div-eq-of-lt, div-le-of-le-mul, div-eq-of-lt-le}
 use native.Mathlib.Decide.{ℕ-discrete}
 use lib.Dec.{leb}
 use borrow.Author.Tests.{le-leb, leb-true}
 use Rattle.graph.specs.Words.{pick, sum}
-use Rattle.graph.specs.Graph.{acyclic, Chain, alone, joined, sumAlong, longest}
+use Rattle.graph.specs.Graph.{acyclic, Chain, alone, joined, sumAlong}
 use Rattle.graph.proofs.Facts.{sum-le, sum-at}
 use Rattle.graph.proofs.Rank.{rank, rank-up}
 use Rattle.graph.proofs.Long.{longest-bounds, longest-reached}
 use Rattle.table.specs.declared.Table.{Table}
 use Rattle.table.specs.Memory.{vertices, D, T, succ, edgeIn, cost}
-use Rattle.table.specs.Good.{GoodTask, GoodTable}
+use Rattle.table.specs.Good.{GoodTable}
 use Rattle.verdict.specs.Verdicts.{vol, len, roundedUp, due}
 
 -- ---- sums
@@ -41,6 +41,12 @@ sum-grows (suc n) f g a p b h k = elim (ℕ-discrete p n) [
   | yes e ↦ omega (arith, sum-le n f g (λ i l. h i (omega arith)), rw e at k)
   | no e ↦ omega (arith, sum-grows n f g a p (omega arith) (λ i l. h i (omega arith)) k, h n (omega arith))
 ]
+
+-- the first terms of a sum are within it, so a loop that adds up stays within the bounds below
+pub sum-part : (j n : ℕ) (f : ℕ → ℕ) → j ≤ n → sum j f ≤ sum n f
+unfolding sum
+sum-part j zero f h = let z : j ≡ 0 = omega arith in rw z (omega arith)
+sum-part j (suc n) f h = elim (ℕ-discrete j (suc n)) [ yes e ↦ rw e (omega arith) | no e ↦ omega (arith, sum-part j n f (omega arith)) ]
 
 -- ---- a division rounded up
 pub up-most : (x y : ℕ) → 1 ≤ y → roundedUp x y ≤ x
@@ -136,7 +142,8 @@ module _ (t : Table) (good : GoodTable t) where
   unfolding due
   vol-due k b = omega (arith, own-due k b, sum-at (t .n) (λ i. roundedUp (D t k) (T t i) * vol t i) k b)
 
-  task-due : (k i : ℕ) → i < t .n → roundedUp (D t k) (T t i) * vol t i ≤ D t k * 16000000
+  -- one task's part of what is due, and the parts of the first tasks
+  pub task-due : (k i : ℕ) → i < t .n → roundedUp (D t k) (T t i) * vol t i ≤ D t k * 16000000
   task-due k i l = mul-le-mul (up-most (D t k) (T t i) (good .each i l .T-low)) (vol-high i l)
 
   pub due-high : (k : ℕ) → k < t .n → due t k ≤ vol t k + 15 * (D t k * 16000000)
@@ -164,6 +171,10 @@ module _ (t : Table) (good : GoodTable t) where
   -- together, as code needs them
   pub due-bound : (k : ℕ) → k < t .n → due t k ≤ 240000016000000
   due-bound k b = omega (arith, due-high k b, vol-high k b, good .each k b .D-high)
+
+  pub due-part : (k j : ℕ) → k < t .n → j ≤ t .n → sum j (λ i. roundedUp (D t k) (T t i) * vol t i) ≤ 240000016000000
+  unfolding due
+  due-part k j b l = omega (arith, sum-part j (t .n) (λ i. roundedUp (D t k) (T t i) * vol t i) l, due-bound k b)
 
   pub spent-bound : (k : ℕ) → k < t .n → (t .m - 1) * len t k + due t k ≤ 240000128000000
   spent-bound k b = omega (arith, due-bound k b, chain-high k b)

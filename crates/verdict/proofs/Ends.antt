@@ -9,7 +9,6 @@ use Rattle.table.specs.Memory.{noSucc, noCosts, zeroTask, noTasks, noRow, noTab
 use Rattle.table.specs.Numbers.{number, place}
 use Rattle.table.specs.Reading.{field, markAt, ranged, byteAt, value4, ticksAt, notUnder, periodAt, edgeOk, edgeAt, costsAt, addEdge, edgesAt, badTask, partsAt, taskAt, putCosts, badTable, withTask, tasksAt, tableAt, refused, ending, read}
 use Rattle.table.specs.Writing.{bytes4}
-use Rattle.verdict.specs.declared.Verdict.{Verdict}
 use Rattle.verdict.specs.Verdicts.{vol, len, roundedUp, due, margin, naming, verdictOn, unread, verdictRead, verdict}
 use Rattle.verdict.proofs.Margins.{lowEnd}
 

@@ -1,20 +1,18 @@
 -- The report of every file has at most 1,312 bytes, so a buffer of that size holds it.
-use mathlib.Core.Path.{_≡_, refl, sym, ap, subst, _∙_}
-use mathlib.Core.Logic.{_⊎_, inl, inr, ⊎-elim}
+use mathlib.Core.Path.{_≡_, refl, sym, subst}
+use mathlib.Core.Logic.{_⊎_, ⊎-elim}
 use mathlib.Core.Bool.{Bool, true, false}
-use mathlib.Core.List.{List, [], _∷_, _++_}
+use mathlib.Core.List.{List, _++_}
 use Prim.Native.Nat.{ℕ, zero, suc, _+_, _*_, _-_, _^_, _≤_, _<_}
 use native.Mathlib.Omega.{arith}
-use native.Mathlib.Nat.{mul-suc, mul-le-mul-left}
-use lib.Dec.{T, eqb, leb, leb→le}
+use native.Mathlib.Nat.{mul-suc}
+use lib.Dec.{eqb, leb, leb→le}
 use lib.ListN.{length, length-append}
-use lib.IntN.{ℤ, pos, negsuc, negℤ, natAbs}
-use lib.Signed.{leZ, _≤ℤ_}
+use lib.IntN.{ℤ, pos, negsuc, natAbs}
 use Rattle.graph.specs.Words.{pick, joinFrom, inOrder}
 use Rattle.table.specs.declared.Table.{Table}
 use Rattle.table.specs.declared.Outcome.{Outcome}
 use Rattle.table.specs.declared.Outcome.the-variants.{Read, Short, Mark, Range, Ticks, Order, Edge, Cycle, Extra}
-use Rattle.table.specs.declared.Loaded.{Loaded}
 use Rattle.table.specs.Numbers.{number, place}
 use Rattle.table.specs.Reading.{whenRead, read}
 use Rattle.table.specs.Good.{GoodTable}

@@ -9,16 +9,16 @@ use native.Mathlib.Nat.{mul-suc, mul-add, mul-comm, mul-le-mul, mul-le-mul-left,
 use native.Mathlib.Decide.{decLe}
 use lib.Dec.{T, ltb, leb, le→leb}
 use lib.IntN.{ℤ, pos, negsuc, negℤ, _+ℤ_, _-ℤ_, -ℤ-+ℤ-cancel}
-use lib.Signed.{ltZ, leZ, _≤ℤ_, _<ℤ_}
-use borrow.Author.Tests.{ltb-true, ltb-false, lt-ltb, le-ltb}
+use lib.Signed.{leZ, _≤ℤ_}
+use borrow.Author.Tests.{ltb-false}
 use Rattle.table.specs.declared.Table.{Table}
 use Rattle.table.specs.declared.Outcome.the-variants.{Read}
 use Rattle.table.specs.Memory.{D}
 use Rattle.table.specs.Reading.{read}
-use Rattle.table.specs.Good.{GoodTask, GoodTable}
+use Rattle.table.specs.Good.{GoodTable}
 use Rattle.table.proofs.Sound.{read-good}
 use Rattle.verdict.specs.Verdicts.{vol, len, due, margin}
-use Rattle.verdict.proofs.Amounts.{vol-high, len-vol, len-low, vol-due, due-high, allowance-high, chain-high}
+use Rattle.verdict.proofs.Amounts.{vol-high, len-vol, len-low, vol-due, due-high}
 
 -- ---- a difference of two numbers, and its order
 pub minus-low : (a b l : ℕ) → b ≤ a + suc l → negsuc l ≤ℤ (pos a -ℤ pos b)

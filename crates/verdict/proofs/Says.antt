@@ -3,13 +3,13 @@ use mathlib.Core.Path.{_≡_, refl, sym, ap, subst, _∙_}
 use mathlib.Core.Logic.{_⊎_, inl, inr, ⊎-elim}
 use mathlib.Core.Bool.{Bool, true, false}
 use mathlib.Core.List.{List}
-use Prim.Native.Nat.{ℕ, zero, suc, _+_, _*_, _-_, _≤_, _<_}
+use Prim.Native.Nat.{ℕ, suc, _+_, _*_, _-_, _≤_, _<_}
 use native.Mathlib.Omega.{arith}
 use lib.Dec.{ltb}
-use lib.IntN.{ℤ, pos, _-ℤ_}
+use lib.IntN.{ℤ, pos}
 use lib.Signed.{ltZ, leZ, _≤ℤ_, _<ℤ_}
 use borrow.Author.Tests.{le-ltb}
-use Rattle.graph.specs.Words.{all, lowest, lowestOr}
+use Rattle.graph.specs.Words.{all, lowest}
 use Rattle.graph.proofs.Facts.{clash, all-of, all-at, all-not, lowest-is, lowestOr-none}
 use Rattle.table.specs.declared.Table.{Table}
 use Rattle.table.specs.declared.Outcome.{Outcome}
@@ -51,13 +51,13 @@ pub record Accepts (t : Table) (v : Verdict) : Type 0 where
   pub none-lower : (j : ℕ) → j < v .task → v .margin <ℤ margin t j
 
 module _ (t : Table) (good : GoodTable t) where
-  negative : ℕ → Bool
+  unfoldable pub negative : ℕ → Bool
   negative k = ltZ (margin t k) (pos 0)
 
   longer : ℕ → Bool
   longer k = ltb (D t k) (len t k)
 
-  least : ℕ → Bool
+  unfoldable pub least : ℕ → Bool
   least k = all (t .n) (λ i. leZ (margin t k) (margin t i))
 
   passing : (k : ℕ) → negative k ≡ false → pos 0 ≤ℤ margin t k
@@ -65,7 +65,7 @@ module _ (t : Table) (good : GoodTable t) where
   passing k h = le-yes (pos 0) (margin t k) (not-lt (margin t k) (pos 0) h)
 
   -- ---- 20
-  some-negative : (y : ℕ) → Lowest (t .n) negative y → verdictOn t ≡ naming 20 t y
+  pub some-negative : (y : ℕ) → Lowest (t .n) negative y → verdictOn t ≡ naming 20 t y
   unfolding verdictOn negative
   some-negative y h = lowestOr-is (t .n) negative (naming 20 t) _ y h
 
@@ -98,7 +98,7 @@ module _ (t : Table) (good : GoodTable t) where
           let r = smallest (t .n - 1) (margin t) in
           clash (all-of (t .n) (λ i. leZ (margin t (r .0)) (margin t i)) (λ i b. r .2 i (omega arith))) (h (r .0) (omega (arith, r .1)))
 
-  none-negative : ((k : ℕ) → k < t .n → negative k ≡ false) → (y : ℕ) → Lowest (t .n) least y → verdictOn t ≡ naming 0 t y
+  pub none-negative : ((k : ℕ) → k < t .n → negative k ≡ false) → (y : ℕ) → Lowest (t .n) least y → verdictOn t ≡ naming 0 t y
   unfolding verdictOn negative longer least
   none-negative h y l =
       lowestOr-none (t .n) negative (naming 20 t) _ h

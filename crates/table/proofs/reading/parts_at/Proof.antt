@@ -44,14 +44,14 @@ returns-2 c = search parts-laws
 is-acyclic-requires : tie.Need-is-acyclic-requires
 is-acyclic-requires c κs = search needs
 
-cast-t19 : tie.Need-cast-t19
-cast-t19 c = search needs
+mul-next : tie.Need-mul-next
+mul-next c = search needs
 
-mul-t22 : tie.Need-mul-t22
-mul-t22 c = search needs
+add-next : tie.Need-add-next
+add-next c = search needs
 
-add-t23 : tie.Need-add-t23
-add-t23 c = search needs
+cast-vertices : tie.Need-cast-vertices
+cast-vertices c = search needs
 
 returns-3 : tie.Need-returns-3
 returns-3 c = search parts-laws
@@ -79,9 +79,9 @@ parts-at-spec =
     bad-task-requires-2
     returns-2
     is-acyclic-requires
-    cast-t19
-    mul-t22
-    add-t23
+    mul-next
+    add-next
+    cast-vertices
     returns-3
     bad-task-requires-3
     returns-4)

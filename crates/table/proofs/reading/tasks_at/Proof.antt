@@ -66,11 +66,11 @@ loop-again c =
           ∙ b .loop .inv .2,
     )
 
-cast-t21 : tie.Need-cast-t21 Inv-loop μ-loop
-cast-t21 c = search needs
+cast-processors : tie.Need-cast-processors Inv-loop μ-loop
+cast-processors c = search needs
 
-cast-t22 : tie.Need-cast-t22 Inv-loop μ-loop
-cast-t22 c = search needs
+cast-count : tie.Need-cast-count Inv-loop μ-loop
+cast-count c = search needs
 
 returns-2 : tie.Need-returns-2 Inv-loop μ-loop
 returns-2 c = tasks-end _ _ _ _ _ (omega arith) ∙ c .before .loop .inv .2
@@ -93,6 +93,6 @@ tasks-at-spec =
     add-i
     loop-less
     loop-again
-    cast-t21
-    cast-t22
+    cast-processors
+    cast-count
     returns-2)

@@ -1,0 +1,77 @@
+//! The functions and structs of include/milltundra.h, with safe functions over them. Nothing checks these
+//! declarations against the library but the comparison itself.
+
+use second::table::{ENTRIES, ROW};
+
+/// `struct mt_task`
+#[repr(C)]
+#[derive(Clone, Copy, PartialEq, Eq, Debug)]
+pub struct Task {
+    pub v: u8,
+    pub d: u32,
+    pub t: u32,
+    pub succ: [u16; ENTRIES],
+}
+
+/// `struct mt_table`
+#[repr(C)]
+#[derive(Clone, Copy, PartialEq, Eq, Debug)]
+pub struct Table {
+    pub m: u8,
+    pub n: u8,
+    pub tasks: [Task; ENTRIES],
+    pub costs: [u32; ROW],
+}
+
+/// `struct mt_read_answer`
+#[repr(C)]
+#[derive(Clone, Copy, PartialEq, Eq, Debug)]
+pub struct ReadAnswer {
+    pub number: u8,
+    pub place: u64,
+    pub table: Table,
+}
+
+/// `struct mt_write_answer`
+#[repr(C)]
+#[derive(Clone, Copy, PartialEq, Eq, Debug)]
+pub struct WriteAnswer {
+    pub number: u8,
+    pub place: u64,
+}
+
+/// The functions themselves, for measurements.
+pub mod entry {
+    use super::{ReadAnswer, Table, WriteAnswer};
+
+    extern "C" {
+        pub fn mt_read(bytes: *const u8, count: usize) -> ReadAnswer;
+        pub fn mt_write(table: Table, buffer: *mut u8, count: usize) -> WriteAnswer;
+    }
+}
+
+pub fn read(bytes: &[u8]) -> ReadAnswer {
+    // Safe: the pointer and the count are those of a slice, and any bytes get an answer.
+    unsafe { entry::mt_read(bytes.as_ptr(), bytes.len()) }
+}
+
+pub fn write(table: Table, buffer: &mut [u8]) -> WriteAnswer {
+    // Safe: the pointer and the count are those of a slice that nobody else holds, and any table gets an answer.
+    unsafe { entry::mt_write(table, buffer.as_mut_ptr(), buffer.len()) }
+}
+
+impl From<&second::Table> for Table {
+    fn from(table: &second::Table) -> Table {
+        Table {
+            m: table.m,
+            n: table.n,
+            tasks: table.tasks.map(|task| Task {
+                v: task.v,
+                d: task.deadline,
+                t: task.period,
+                succ: task.succ,
+            }),
+            costs: table.costs,
+        }
+    }
+}

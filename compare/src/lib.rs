@@ -1,0 +1,9 @@
+//! The C face from Rust, and comparisons of it with the second program.
+
+pub mod comparison;
+pub mod face;
+pub mod reading;
+pub mod writing;
+
+/// Every comparison; a new one is a line here.
+pub const COMPARISONS: [comparison::Comparison; 2] = [reading::READING, writing::WRITING];

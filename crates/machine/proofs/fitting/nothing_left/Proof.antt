@@ -1,0 +1,67 @@
+-- The loop's invariant: nothing remains of the vertices that were passed.
+use mathlib.Core.Path.{_≡_, refl}
+use mathlib.Core.Bool.{true}
+use Prim.Native.Nat.{_+_, _*_, _-_, _≤_}
+use native.Mathlib.Omega.{arith}
+use borrow.Author.Needs.{needs}
+use borrow.Author.Tests.{eq-eqb, ne-eqb}
+use lib.ListN.{getD}
+use lib.Dec.{eqb}
+use Rattle.graph.specs.Words.{all}
+use Rattle.machine.proofs.Open.{all-more, all-off, all-done}
+use Rattle.machine.proofs.fitting.nothing_left.Statement.{statement}
+use Rattle.machine.proofs.fitting.nothing_left.Tie as tie
+
+abbrev Inv-loop : tie.InvT-loop
+Inv-loop remaining i u₀ u = (u ≤ 16) × (all u (λ w. eqb (getD remaining (16 * i + w) 0) 0) ≡ true)
+
+abbrev μ-loop : tie.MeasureT-loop
+μ-loop remaining i u₀ u = 16 - u
+
+loop-holds : tie.Need-loop-holds Inv-loop μ-loop
+unfolding all
+loop-holds c = (omega arith, refl)
+
+mul-if1 : tie.Need-mul-if1 Inv-loop μ-loop
+mul-if1 c = search needs
+
+add-if1 : tie.Need-add-if1 Inv-loop μ-loop
+add-if1 c = search needs
+
+mul-if1-2 : tie.Need-mul-if1-2 Inv-loop μ-loop
+mul-if1-2 c = search needs
+
+element-copy-out-if1 : tie.Need-element-copy-out-if1 Inv-loop μ-loop
+element-copy-out-if1 c = search needs
+
+returns : tie.Need-returns Inv-loop μ-loop
+returns c = all-off 16 _ (c .before .before .before .loop .u) (omega arith) (ne-eqb _ _ (c .if1 .taken))
+
+add-u : tie.Need-add-u Inv-loop μ-loop
+add-u c = search needs
+
+loop-less : tie.Need-loop-less Inv-loop μ-loop
+loop-less c = search needs
+
+loop-again : tie.Need-loop-again Inv-loop μ-loop
+loop-again c = (omega arith, all-more _ _ (c .before .before .before .loop .inv .1) (eq-eqb _ _ (c .if1 .left)))
+
+returns-2 : tie.Need-returns-2 Inv-loop μ-loop
+returns-2 c = all-done 16 _ (c .before .loop .u) (omega arith) (c .before .loop .inv .1)
+
+pub nothing-left-spec : {M : Type 1} → statement M
+nothing-left-spec =
+    tie.close
+    (tie.spec
+    Inv-loop
+    μ-loop
+    loop-holds
+    mul-if1
+    add-if1
+    mul-if1-2
+    element-copy-out-if1
+    returns
+    add-u
+    loop-less
+    loop-again
+    returns-2)

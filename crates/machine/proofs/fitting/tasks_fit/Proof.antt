@@ -1,0 +1,88 @@
+-- The loop's invariant: the tasks that were passed fit.
+use mathlib.Core.Path.{_≡_, refl, sym, _∙_}
+use mathlib.Core.Bool.{true}
+use Prim.Native.Nat.{_-_, _≤_}
+use native.Mathlib.Omega.{arith}
+use borrow.Author.Needs.{needs}
+use borrow.Author.Tests.{not-true, not-false}
+use Rattle.graph.specs.Words.{all}
+use Rattle.table.specs.Memory.{noTask, task}
+use Rattle.machine.specs.States.{idle}
+use Rattle.machine.specs.Fitting.{fitsTask}
+use Rattle.machine.proofs.Open.{all-more, all-off, all-done}
+use Rattle.machine.proofs.Fits.{at-most-sixteen}
+use Rattle.machine.proofs.fitting.tasks_fit.Statement.{statement}
+use Rattle.machine.proofs.fitting.tasks_fit.Tie as tie
+
+abbrev Inv-loop : tie.InvT-loop
+Inv-loop t st n i₀ i = (i ≤ 16) × (all i (fitsTask t st) ≡ true)
+
+abbrev μ-loop : tie.MeasureT-loop
+μ-loop t st n i₀ i = 16 - i
+
+cast-n : tie.Need-cast-n Inv-loop μ-loop
+cast-n c = search needs
+
+loop-holds : tie.Need-loop-holds Inv-loop μ-loop
+unfolding all
+loop-holds c = (omega arith, refl)
+
+mul-a : tie.Need-mul-a Inv-loop μ-loop
+mul-a c = search needs
+
+element-copy-out-a : tie.Need-element-copy-out-a Inv-loop μ-loop
+element-copy-out-a c = search needs
+
+mul-s : tie.Need-mul-s Inv-loop μ-loop
+mul-s c = search needs
+
+element-copy-out-s : tie.Need-element-copy-out-s Inv-loop μ-loop
+element-copy-out-s c = search needs
+
+fits-task-requires : tie.Need-fits-task-requires Inv-loop μ-loop
+unfolding task noTask
+fits-task-requires c κs =
+    let a = c .before .before .before .before .before .before .before .before in
+    (omega arith, at-most-sixteen (a .args .t1) (a .pre) (c .before .before .before .before .before .before .before .loop .i) (omega arith))
+
+returns : tie.Need-returns Inv-loop μ-loop
+unfolding task noTask idle
+returns c =
+    let l = c .before .before .before .before .before .before .before .before .before .loop in
+    let a = c .before .before .before .before .before .before .before .before .before .before in
+    all-off 16 _ (l .i) (omega arith) (sym (c .before .fits-task .ensures (a .args .t1) (a .args .t2) (a .pre) refl refl refl refl refl refl) ∙ not-true _ (c .if1 .taken))
+
+add-i : tie.Need-add-i Inv-loop μ-loop
+add-i c = search needs
+
+loop-less : tie.Need-loop-less Inv-loop μ-loop
+loop-less c = search needs
+
+loop-again : tie.Need-loop-again Inv-loop μ-loop
+unfolding task noTask idle
+loop-again c =
+    let l = c .before .before .before .before .before .before .before .before .before .loop in
+    let a = c .before .before .before .before .before .before .before .before .before .before in
+    (omega arith, all-more _ _ (l .inv .1) (sym (c .before .fits-task .ensures (a .args .t1) (a .args .t2) (a .pre) refl refl refl refl refl refl) ∙ not-false _ (c .if1 .left)))
+
+returns-2 : tie.Need-returns-2 Inv-loop μ-loop
+returns-2 c = all-done 16 _ (c .before .loop .i) (omega arith) (c .before .loop .inv .1)
+
+pub tasks-fit-spec : {M : Type 1} → statement M
+tasks-fit-spec =
+    tie.close
+    (tie.spec
+    Inv-loop
+    μ-loop
+    cast-n
+    loop-holds
+    mul-a
+    element-copy-out-a
+    mul-s
+    element-copy-out-s
+    fits-task-requires
+    returns
+    add-i
+    loop-less
+    loop-again
+    returns-2)

@@ -1,0 +1,15 @@
+-- What wraps back to the deadline is the difference, wrapped.
+use borrow.Author.Needs.{needs}
+use Rattle.machine.specs.States.{wrap, ticksLeft}
+use Rattle.machine.proofs.fitting.ticks_left.Statement.{statement}
+use Rattle.machine.proofs.fitting.ticks_left.Tie as tie
+
+wrapping-sub-u32-requires : tie.Need-wrapping-sub-u32-requires
+wrapping-sub-u32-requires c κs = search needs
+
+returns : tie.Need-returns
+unfolding ticksLeft wrap
+returns c = search needs
+
+pub ticks-left-spec : {M : Type 1} → statement M
+ticks-left-spec = tie.close (tie.spec wrapping-sub-u32-requires returns)

@@ -1,0 +1,29 @@
+use mathlib.Core.Path.{ap, ap₂, _∙_}
+use mathlib.Core.List.{List}
+use Prim.Native.Nat.{ℕ, _+_}
+use borrow.Author.Needs.{needs}
+use Rattle.machine.specs.declared.State.{State}
+use Rattle.machine.specs.declared.TaskState.{TaskState}
+use Rattle.machine.specs.States.{wrap}
+use Rattle.machine.specs.Steps.{worked}
+use Rattle.machine.proofs.steps.work.Statement.{statement}
+use Rattle.machine.proofs.steps.work.Tie as tie
+
+wrapping-add-u32-requires : tie.Need-wrapping-add-u32-requires
+wrapping-add-u32-requires c κs = search needs
+
+waits-requires : tie.Need-waits-requires
+waits-requires c κs = search needs
+
+ran-requires : tie.Need-ran-requires
+ran-requires c κs = search needs
+
+returns : tie.Need-returns
+unfolding worked wrap
+returns c =
+    let st = c .before .before .before .args .st in
+    ap (λ (k : ℕ). record { clock = k; phase = st .phase; tasks = c .before .waits .result; remaining = c .ran .result }) (c .before .before .wrapping-add-u32 .ensures)
+    ∙ ap₂ (λ (ts : List TaskState) (rs : List ℕ). record { clock = wrap (st .clock + 1); phase = st .phase; tasks = ts; remaining = rs }) (c .before .waits .ensures) (c .ran .ensures)
+
+pub work-spec : {M : Type 1} → statement M
+work-spec = tie.close (tie.spec wrapping-add-u32-requires waits-requires ran-requires returns)

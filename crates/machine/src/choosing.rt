@@ -1,0 +1,154 @@
+// Steps 2 and 3 of a tick: which vertices are available, and the first m of them in rank order. A set of vertices is sixteen bits.
+ghost use mathlib.Core.Path.{_≡_};
+ghost use mathlib.Core.Bool.{_&&_, not, true, false};
+ghost use Prim.Native.Nat.{ℕ, _+_, _≤_, _<_};
+ghost use lib.ListN.{length, getD, take};
+ghost use lib.Dec.{eqb};
+ghost use Rattle.graph.specs.Words.{bit};
+ghost use Rattle.table.specs.Good.{GoodTable};
+ghost use Rattle.machine.specs.States.{isLive, deadlineOf, left};
+ghost use Rattle.machine.specs.Steps.{available, ownChoice};
+ghost use Rattle.machine.specs.Choosing.{isReady, inSets, RanksFirst};
+use crate::Activity;
+use crate::Chosen;
+use crate::State;
+use table::Table;
+
+// A live job's deadline; 0 where there is none.
+fn deadline_of(a: Activity) -> u32
+    ensures { λ r. ⌜ r ≡ deadlineOf a ⌝ }
+{
+    match a {
+        Activity::Idle { wait } => 0,
+        Activity::Live { deadline, wait } => deadline,
+    }
+}
+
+// The vertices of task i with something remaining to which none such leads.
+fn ready_in(succ: [u16; 16], remaining: &[u32; 256], i: usize) -> u16
+    requires { ⌜ i < 16 ⌝ }
+    ensures { λ r. ⌜ ((u : ℕ) → u < 16 → bit r u ≡ isReady succ (now (remaining .entry)) i u) ⌝ }
+{
+    let mut unfinished: u16 = 0;
+    let mut led: u16 = 0;
+    for u in 0..16usize {
+        if remaining[16 * i + u] != 0 {
+            unfinished |= 1u16 << u;
+            led |= succ[u];
+        }
+    }
+    unfinished & !led
+}
+
+// Task i's available vertices: those of a live job; an idle task has none.
+fn available_in(a: Activity, succ: [u16; 16], remaining: &[u32; 256], i: usize) -> u16
+    requires { ⌜ i < 16 ⌝ }
+    ensures { λ r. ⌜ ((u : ℕ) → u < 16 → bit r u ≡ (isLive a && isReady succ (now (remaining .entry)) i u)) ⌝ }
+{
+    match a {
+        Activity::Idle { wait } => 0,
+        Activity::Live { deadline, wait } => ready_in(succ, remaining, i),
+    }
+}
+
+// Step 2: each task's available vertices.
+fn available_sets(t: Table, st: State) -> [u16; 16]
+    requires { ⌜ GoodTable t ⌝ }
+    ensures { λ r. ⌜ ((k : ℕ) → k < 256 → inSets r k ≡ available t st k) ⌝ }
+{
+    let mut sets = [0u16; 16];
+    for i in 0..16usize {
+        let s = st.tasks[i];
+        let a = s.activity;
+        let x = t.tasks[i];
+        let succ = x.succ;
+        sets[i] = available_in(a, succ, &st.remaining, i);
+    }
+    sets
+}
+
+// Each task's ticks left.
+fn ticks_left(st: State) -> [u32; 16]
+    ensures { λ r. ⌜ ((i : ℕ) → i < 16 → getD r i 0 ≡ left st i) ⌝ }
+{
+    let mut ticks = [0u32; 16];
+    for i in 0..16usize {
+        let s = st.tasks[i];
+        let a = s.activity;
+        ticks[i] = std::num::wrapping_sub_u32(deadline_of(a), st.clock);
+    }
+    ticks
+}
+
+// The task that ranks first of those up to i, `best` being that of those before it.
+fn better(sets: [u16; 16], left: [u32; 16], best: usize, i: usize) -> usize
+    requires { ⌜ (i < 16) × RanksFirst i sets left best ⌝ }
+    ensures { λ r. ⌜ RanksFirst (i + 1) sets left r ⌝ }
+{
+    if sets[i] == 0 {
+        return best;
+    }
+    if best == 16 {
+        return i;
+    }
+    if left[i] < left[best] {
+        return i;
+    }
+    best
+}
+
+// The task whose vertex ranks first, 16 if no set has one.
+fn next_task(sets: [u16; 16], left: [u32; 16]) -> usize
+    ensures { λ r. ⌜ RanksFirst 16 sets left r ⌝ }
+{
+    let mut best: usize = 16;
+    for i in 0..16usize {
+        best = better(sets, left, best, i);
+    }
+    best
+}
+
+// The lowest member of a set that is not empty.
+fn first_of(set: u16) -> usize
+    requires { ⌜ 0 < set ⌝ }
+    ensures { λ r. ⌜ (r < 16) × (bit set r ≡ true) × ((j : ℕ) → j < r → bit set j ≡ false) ⌝ }
+{
+    u16::trailing_zeros(set) as usize
+}
+
+// A set without u.
+fn without(set: u16, u: usize) -> u16
+    requires { ⌜ u < 16 ⌝ }
+    ensures { λ r. ⌜ ((k : ℕ) → k < 16 → bit r k ≡ (bit set k && not (eqb k u))) ⌝ }
+{
+    set & !(1u16 << u)
+}
+
+// Steps 2 and 3: at most m times the vertex that ranks first of those that are left.
+pub(crate) fn choose(t: Table, st: State) -> Chosen
+    requires { ⌜ GoodTable t ⌝ }
+    ensures { λ r. ⌜ (take (r .count) (r .keys) ≡ ownChoice t st) × (r .count ≤ 8) × (r .count ≡ length (ownChoice t st)) ⌝ }
+{
+    let m = t.m as usize;
+    let left = ticks_left(st);
+    let mut sets = available_sets(t, st);
+    let mut keys = [0u8; 8];
+    let mut count: usize = 0;
+    while count < m {
+        let i = next_task(sets, left);
+        if i == 16 {
+            return Chosen {
+                keys: keys,
+                count: count,
+            };
+        }
+        let u = first_of(sets[i]);
+        keys[count] = (16 * i + u) as u8;
+        sets[i] = without(sets[i], u);
+        count += 1;
+    }
+    Chosen {
+        keys: keys,
+        count: count,
+    }
+}

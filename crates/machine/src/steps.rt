@@ -1,0 +1,303 @@
+// The steps of a tick, each by itself: document 01, "The machine". The definitions are in specs/Steps.antt.
+ghost use mathlib.Core.Path.{_≡_};
+ghost use mathlib.Core.Bool.{_&&_};
+ghost use mathlib.Core.List.{[]};
+ghost use Prim.Native.Nat.{ℕ, _+_, _*_, _-_, _^_, _≤_, _<_};
+ghost use lib.ListN.{getD, take};
+ghost use lib.Dec.{eqb};
+ghost use Rattle.graph.specs.Words.{pick, all, row, isIn, Distinct, lowest};
+ghost use Rattle.machine.specs.declared.Activity.the-variants.{Idle, Live};
+ghost use Rattle.machine.specs.States.{isLive, waitOf, deadlineOf, wrap, zeros};
+ghost use Rattle.machine.specs.Steps.{released, withWait, worked, finished, ended, missed};
+use crate::Activity;
+use crate::Chosen;
+use crate::Phase;
+use crate::State;
+use crate::TaskState;
+use table::Table;
+
+// One less, not below 0.
+fn less(x: u32) -> u32
+    ensures { λ r. ⌜ r ≡ x - 1 ⌝ }
+{
+    if x == 0 {
+        return 0;
+    }
+    x - 1
+}
+
+pub(crate) fn wait_of(a: Activity) -> u32
+    ensures { λ r. ⌜ r ≡ waitOf a ⌝ }
+{
+    match a {
+        Activity::Idle { wait } => wait,
+        Activity::Live { deadline, wait } => wait,
+    }
+}
+
+fn is_live(a: Activity) -> bool
+    ensures { λ r. ⌜ r ≡ isLive a ⌝ }
+{
+    match a {
+        Activity::Idle { wait } => false,
+        Activity::Live { deadline, wait } => true,
+    }
+}
+
+// A state of zeros but for its clock and its phase.
+pub(crate) fn zeros(clock: u32, phase: Phase) -> State
+    ensures { λ r. ⌜ r ≡ zeros clock phase ⌝ }
+{
+    let a = Activity::Idle { wait: 0 };
+    let s = TaskState { activity: a };
+    State {
+        clock: clock,
+        phase: phase,
+        tasks: [s; 16],
+        remaining: [0u32; 256],
+    }
+}
+
+// A named task's entry: live, its deadline the clock plus D, wrapped.
+fn begun(s: TaskState, clock: u32, d: u32) -> TaskState
+    ensures { λ r. ⌜ r .activity ≡ Live (wrap (clock + d)) (waitOf (s .activity)) ⌝ }
+{
+    let a = s.activity;
+    let end = std::num::wrapping_add_u32(clock, d);
+    let w = wait_of(a);
+    let b = Activity::Live {
+        deadline: end,
+        wait: w,
+    };
+    TaskState { activity: b }
+}
+
+// Step 1 of the tasks.
+fn named_live(t: Table, st: State, named: u16) -> [TaskState; 16]
+    ensures { λ r. ⌜ r ≡ released t st named .tasks ⌝ }
+{
+    let mut tasks = st.tasks;
+    for i in 0..16usize {
+        if (named >> i) % 2 == 1 {
+            tasks[i] = begun(st.tasks[i], st.clock, t.tasks[i].d);
+        }
+    }
+    tasks
+}
+
+// Step 1 of what remains.
+fn named_costs(t: Table, st: State, named: u16) -> [u32; 256]
+    ensures { λ r. ⌜ r ≡ released t st named .remaining ⌝ }
+{
+    let mut remaining = st.remaining;
+    for k in 0..256usize {
+        if (named >> (k / 16)) % 2 == 1 {
+            remaining[k] = t.costs[k];
+        }
+    }
+    remaining
+}
+
+// Step 1.
+pub(crate) fn release(t: Table, st: State, named: u16) -> State
+    ensures { λ r. ⌜ r ≡ released t st named ⌝ }
+{
+    if named == 0 {
+        return st;
+    }
+    let p = st.phase;
+    State {
+        clock: st.clock,
+        phase: p,
+        tasks: named_live(t, st, named),
+        remaining: named_costs(t, st, named),
+    }
+}
+
+// The same activity with another wait.
+fn with_wait(a: Activity, w: u32) -> Activity
+    ensures { λ r. ⌜ r ≡ withWait w a ⌝ }
+{
+    match a {
+        Activity::Idle { wait } => Activity::Idle { wait: w },
+        Activity::Live { deadline, wait } => Activity::Live {
+            deadline: deadline,
+            wait: w,
+        },
+    }
+}
+
+// The wait after step 4: T minus 1 for a named task, for any other one less.
+fn next_wait(wait: u32, named: bool, period: u32) -> u32
+    ensures { λ r. ⌜ r ≡ pick named (period - 1) (wait - 1) ⌝ }
+{
+    if named {
+        return less(period);
+    }
+    less(wait)
+}
+
+// A task's entry after step 4.
+fn waited(s: TaskState, named: bool, period: u32) -> TaskState
+    ensures { λ r. ⌜ r .activity ≡ withWait (pick named (period - 1) (waitOf (s .activity) - 1)) (s .activity) ⌝ }
+{
+    let a = s.activity;
+    let w = next_wait(wait_of(a), named, period);
+    let b = with_wait(a, w);
+    TaskState { activity: b }
+}
+
+// Step 4 of the tasks.
+fn waits(t: Table, st: State, named: u16) -> [TaskState; 16]
+    ensures { λ r. ⌜ r ≡ worked t st named [] .tasks ⌝ }
+{
+    let mut tasks = st.tasks;
+    for i in 0..16usize {
+        tasks[i] = waited(st.tasks[i], (named >> i) % 2 == 1, t.tasks[i].t);
+    }
+    tasks
+}
+
+// A vertex's number as an index.
+fn wide(x: u8) -> usize
+    ensures { λ r. ⌜ (r ≡ x) × (r < 256) ⌝ }
+{
+    x as usize
+}
+
+// Step 4 of what remains.
+fn ran(st: State, chosen: Chosen) -> [u32; 256]
+    requires { ⌜ (chosen .count ≤ 8) × Distinct (take (chosen .count) (chosen .keys)) ⌝ }
+    ensures { λ r. ⌜ r ≡ row 256 (λ k. pick (isIn k (take (chosen .count) (chosen .keys))) (getD (st .remaining) k 0 - 1) (getD (st .remaining) k 0)) ⌝ }
+{
+    let mut remaining = st.remaining;
+    let mut j: usize = 0;
+    while j < chosen.count {
+        let k = wide(chosen.keys[j]);
+        remaining[k] = less(remaining[k]);
+        j += 1;
+    }
+    remaining
+}
+
+// Step 4.
+pub(crate) fn work(t: Table, st: State, named: u16, chosen: Chosen) -> State
+    requires { ⌜ (chosen .count ≤ 8) × Distinct (take (chosen .count) (chosen .keys)) ⌝ }
+    ensures { λ r. ⌜ r ≡ worked t st named (take (chosen .count) (chosen .keys)) ⌝ }
+{
+    let p = st.phase;
+    State {
+        clock: std::num::wrapping_add_u32(st.clock, 1),
+        phase: p,
+        tasks: waits(t, st, named),
+        remaining: ran(st, chosen),
+    }
+}
+
+// Whether nothing remains of task i.
+fn nothing_left(remaining: &[u32; 256], i: usize) -> bool
+    requires { ⌜ i < 16 ⌝ }
+    ensures { λ r. ⌜ r ≡ all 16 (λ u. eqb (getD (now (remaining .entry)) (16 * i + u) 0) 0) ⌝ }
+{
+    for u in 0..16usize {
+        if remaining[16 * i + u] != 0 {
+            return false;
+        }
+    }
+    true
+}
+
+// Two to the power i.
+fn power(i: usize) -> u16
+    requires { ⌜ i < 16 ⌝ }
+    ensures { λ r. ⌜ r ≡ 2 ^ i ⌝ }
+{
+    1u16 << i
+}
+
+// Whether task i's job, live or not, ends.
+fn ends(s: TaskState, remaining: &[u32; 256], i: usize) -> bool
+    requires { ⌜ i < 16 ⌝ }
+    ensures { λ r. ⌜ r ≡ (isLive (s .activity) && all 16 (λ u. eqb (getD (now (remaining .entry)) (16 * i + u) 0) 0)) ⌝ }
+{
+    let a = s.activity;
+    if is_live(a) {
+        return nothing_left(remaining, i);
+    }
+    false
+}
+
+// The set of tasks that step 5 makes idle.
+pub(crate) fn finished_set(st: State) -> u16
+    ensures { λ r. ⌜ r ≡ finished st ⌝ }
+{
+    let mut set: u16 = 0;
+    for i in 0..16usize {
+        if ends(st.tasks[i], &st.remaining, i) {
+            set += power(i);
+        }
+    }
+    set
+}
+
+// A task's entry once its job has ended.
+fn rested(s: TaskState) -> TaskState
+    ensures { λ r. ⌜ r .activity ≡ Idle (waitOf (s .activity)) ⌝ }
+{
+    let a = s.activity;
+    let w = wait_of(a);
+    let b = Activity::Idle { wait: w };
+    TaskState { activity: b }
+}
+
+// Step 5 of the tasks.
+fn ended_tasks(st: State, done: u16) -> [TaskState; 16]
+    requires { ⌜ done ≡ finished st ⌝ }
+    ensures { λ r. ⌜ r ≡ ended st .tasks ⌝ }
+{
+    let mut tasks = st.tasks;
+    for i in 0..16usize {
+        if (done >> i) % 2 == 1 {
+            tasks[i] = rested(st.tasks[i]);
+        }
+    }
+    tasks
+}
+
+// Step 5, given the set of those that end.
+pub(crate) fn end_jobs(st: State, done: u16) -> State
+    requires { ⌜ done ≡ finished st ⌝ }
+    ensures { λ r. ⌜ r ≡ ended st ⌝ }
+{
+    let p = st.phase;
+    let left = st.remaining;
+    State {
+        clock: st.clock,
+        phase: p,
+        tasks: ended_tasks(st, done),
+        remaining: left,
+    }
+}
+
+// Whether a job's deadline is the clock.
+fn is_missed(s: TaskState, clock: u32) -> bool
+    ensures { λ r. ⌜ r ≡ (isLive (s .activity) && eqb (deadlineOf (s .activity)) clock) ⌝ }
+{
+    let a = s.activity;
+    match a {
+        Activity::Idle { wait } => false,
+        Activity::Live { deadline, wait } => deadline == clock,
+    }
+}
+
+// The lowest task that misses its deadline, 16 if none does.
+pub(crate) fn first_missed(st: State) -> u8
+    ensures { λ r. ⌜ r ≡ lowest 16 16 (missed st) ⌝ }
+{
+    for i in 0..16u8 {
+        if is_missed(st.tasks[i as usize], st.clock) {
+            return i;
+        }
+    }
+    16
+}

@@ -1,0 +1,19 @@
+-- An answer put together from what the functions below the C face gave is the one that its definition gives.
+use mathlib.Core.Path.{_≡_, refl}
+use mathlib.Core.List.{List}
+use Prim.Native.Nat.{ℕ}
+use Rattle.panel.specs.Answers.{readAnswer, writeAnswer}
+use Rattle.table.specs.declared.Loaded.{Loaded}
+use Rattle.table.specs.declared.Table.{Table}
+use Rattle.table.specs.declared.Written.{Written}
+use Rattle.table.specs.Numbers.{number, place, writingNumber, writingPlace}
+use Rattle.table.specs.Reading.{read}
+use Rattle.table.specs.Writing.{writing}
+
+pub answers-read : (s : List ℕ) (l : Loaded) (n p : ℕ) → l ≡ read s → n ≡ number (l .outcome) → p ≡ place (l .outcome) → readAnswer s ≡ record { number = n; place = p; table = l .table }
+unfolding readAnswer
+answers-read s l n p is-read is-number is-place = rw is-number (rw is-place (rw is-read refl))
+
+pub answers-write : (t : Table) (room : ℕ) (w : Written) (n p : ℕ) → w ≡ writing t room → n ≡ writingNumber w → p ≡ writingPlace w → writeAnswer t room ≡ record { number = n; place = p }
+unfolding writeAnswer
+answers-write t room w n p is-written is-number is-place = rw is-number (rw is-place (rw is-written refl))

@@ -1,0 +1,183 @@
+-- What the code finds of a good table's task is its len, due and margin; what a difference of two numbers is to the machine.
+use mathlib.Core.Path.{_≡_, sym, ap, ap₂, _∙_}
+use mathlib.Core.Bool.{Bool, true, false, cond}
+use mathlib.Core.List.{List, [], _∷_}
+use Prim.Native.Nat.{ℕ, zero, suc, _+_, _*_, _-_, _/_, _^_, _≤_, _<_}
+use native.Mathlib.Omega.{arith}
+use native.Mathlib.Nat.{mul-le-mul, div-le-self}
+use native.Mathlib.Numerals.{add-one}
+use native.Mathlib.Decide.{ℕ-discrete, decLt}
+use lib.Dec.{ltb}
+use lib.ListN.{length, getD, set, length-set}
+use lib.Seq.{getD-set-same, getD-set-other, ext-getD}
+use lib.IntN.{ℤ, pos, negsuc, _-ℤ_}
+use lib.Signed.{mag, ltZ}
+use mir.Syntax.{w64}
+use mir.Val.{Fits, SFits, toZ, ofZ}
+use mir.Facts.{toZ-pos, toZ-ofZ}
+use Rattle.graph.specs.Words.{sum, row}
+use Rattle.graph.specs.Graph.{edge, acyclic, Chain, alone, joined, sumAlong, longest, longestOf}
+use Rattle.graph.proofs.Facts.{sum-same, length-row, row-at}
+use Rattle.graph.proofs.Long.{longest-bounds, longest-reached}
+use Rattle.table.specs.declared.Table.{Table}
+use Rattle.table.specs.Memory.{vertices, D, T, succ, edgeIn, cost}
+use Rattle.table.specs.Good.{GoodTable}
+use Rattle.verdict.specs.Verdicts.{vol, len, roundedUp, due, margin}
+use Rattle.verdict.proofs.Amounts.{vol-high, len-vol, due-bound}
+
+-- ---- loops: one term more of a sum, and a row of sixteen whose first i numbers are those of f
+pub sum-next : (n : ℕ) (f : ℕ → ℕ) → sum (n + 1) f ≡ sum n f + f n
+unfolding sum
+sum-next n f = rw add-one
+
+pub sum-done : (i n x : ℕ) (f : ℕ → ℕ) → i ≡ n → x ≡ sum i f → x ≡ sum n f
+sum-done i n x f e h = rw e at h
+
+pub record Filled (f : ℕ → ℕ) (i : ℕ) (a : List ℕ) : Type 0 where
+  pub size : length a ≡ 16
+  pub each : (j : ℕ) → j < i → getD a j 0 ≡ f j
+
+pub filled-none : {f : ℕ → ℕ} {a : List ℕ} → length a ≡ 16 → Filled f 0 a
+filled-none h = record { size = h; each = λ j l. absurd (omega arith) }
+
+pub filled-next : {f : ℕ → ℕ} {i : ℕ} {a : List ℕ} (x : ℕ) → i < 16 → x ≡ f i → Filled f i a → Filled f (i + 1) (set a i x)
+filled-next {f} {i} {a} x h e r = record {
+  size = length-set a i x ∙ r .size;
+  each = λ j l. elim (ℕ-discrete j i) [
+    | yes q ↦ rw q (getD-set-same a i x 0 (omega (arith, r .size)) ∙ e)
+    | no q ↦ getD-set-other a i j x 0 q ∙ r .each j (omega arith)
+  ];
+}
+
+pub filled-row : {f : ℕ → ℕ} {a : List ℕ} → Filled f 16 a → a ≡ row 16 f
+filled-row {f} {a} r =
+    ext-getD 0 a (row 16 f) (r .size ∙ sym (length-row 16 f))
+    (λ i h. let l : i < 16 = omega (arith, r .size) in r .each i l ∙ sym (row-at 16 f i 0 l))
+
+-- ---- a graph whose vertices from v on have no edge and no cost: its longest chain is one of the first v
+module _ (v : ℕ) (succ : List ℕ) (f g : ℕ → ℕ) (v1 : 1 ≤ v) (v16 : v ≤ 16) (passes : acyclic succ ≡ true)
+    (ends : (u w : ℕ) → edge succ u w ≡ true → (u < v) × (w < v)) (same : (u : ℕ) → u < 16 → g u ≡ f u)
+    (none : (u : ℕ) → v ≤ u → u < 16 → f u ≡ 0) where
+  wider : (c : List ℕ) → Chain v (edge succ) c → Chain 16 (edge succ) c
+  wider (u ∷ []) (alone h) = let l : u < 16 = omega arith in alone l
+  wider (u ∷ w ∷ c) (joined h e d) = let l : u < 16 = omega arith in joined l e (wider (w ∷ c) d)
+
+  narrower : (u : ℕ) (c : List ℕ) → u < v → Chain 16 (edge succ) (u ∷ c) → Chain v (edge succ) (u ∷ c)
+  narrower u [] b (alone h) = alone b
+  narrower u (w ∷ c) b (joined h e d) = joined b e (narrower w c (ends u w e .1) d)
+
+  along-same : (c : List ℕ) → Chain 16 (edge succ) c → sumAlong g c ≡ sumAlong f c
+  unfolding sumAlong
+  along-same (u ∷ []) (alone h) = ap (λ (x : ℕ). x + 0) (same u h)
+  along-same (u ∷ w ∷ c) (joined h e d) = ap₂ (λ (x y : ℕ). x + y) (same u h) (along-same (w ∷ c) d)
+
+  outside : (u : ℕ) (c : List ℕ) → v ≤ u → Chain 16 (edge succ) (u ∷ c) → sumAlong f (u ∷ c) ≡ 0
+  unfolding sumAlong
+  outside u [] b (alone h) = ap (λ (x : ℕ). x + 0) (none u b h)
+  outside u (w ∷ c) b (joined h e d) = absurd (omega (arith, ends u w e .0))
+
+  most : (c : List ℕ) → Chain 16 (edge succ) c → sumAlong f c ≤ longest v (edge succ) f
+  most [] h = absurd (never h)
+    where
+      never : Chain 16 (edge succ) [] → ⊥
+      never = elim [ ]
+  most (u ∷ c) h = elim (decLt u v) [
+    | yes b ↦ longest-bounds v succ f v16 passes (u ∷ c) (narrower u c b h)
+    | no b ↦ omega (arith, outside u c (omega arith) h)
+  ]
+
+  pub longest-within : longest 16 (edge succ) g ≡ longest v (edge succ) f
+  longest-within =
+      let r = longest-reached 16 succ g (omega arith) passes (omega arith) in
+      let s = longest-reached v succ f v16 passes v1 in
+      let h = wider (s .0) (s .1) in
+      omega (
+        arith,
+        r .2,
+        along-same (r .0) (r .1),
+        most (r .0) (r .1),
+        s .2,
+        along-same (s .0) h,
+        longest-bounds 16 succ g (omega arith) passes (s .0) h,
+      )
+
+module _ (t : Table) (good : GoodTable t) (k : ℕ) (b : k < t .n) where
+  -- the longest chain of the successors and the sixteen costs as they lie in memory is len
+  pub len-found : (x : ℕ) → x ≡ longestOf (succ t k) (row 16 (λ u. getD (t .costs) (16 * k + u) 0)) → x ≡ len t k
+  unfolding longestOf len edgeIn cost
+  len-found x e =
+      let g = good .each k b in
+      e
+      ∙ rw (g .no-cycle)
+      (longest-within (vertices t k) (succ t k) (cost t k) (λ u. getD (row 16 (λ u. getD (t .costs) (16 * k + u) 0)) u 0)
+      (g .v-low) (g .v-high) (g .no-cycle) (λ u w e. let q = g .ends u w e in (q .0, q .1))
+      (λ u h. row-at 16 (λ u. getD (t .costs) (16 * k + u) 0) u 0 h) (g .unused))
+
+  -- what is due, over rows that hold the periods and the vols
+  pub due-found : (times vols : List ℕ) → ((i : ℕ) → i < t .n → getD times i 0 ≡ T t i) → ((i : ℕ) → i < t .n → getD vols i 0 ≡ vol t i)
+      → (y : ℕ) → y ≡ sum (t .n) (λ i. roundedUp (D t k) (getD times i 0) * getD vols i 0) → y ≡ due t k
+  unfolding due
+  due-found times vols p q y e = e ∙ sum-same (t .n) _ _ (λ i h. ap₂ (λ (x y : ℕ). roundedUp (D t k) x * y) (p i h) (q i h))
+
+  -- what `due_of` requires
+  pub due-ready : (times vols : List ℕ) → ((i : ℕ) → i < t .n → getD times i 0 ≡ T t i) → ((i : ℕ) → i < t .n → getD vols i 0 ≡ vol t i)
+      → (t .n ≤ 16) × (D t k ≤ 1000000)
+      × ((i : ℕ) → i < t .n → (1 ≤ getD times i 0) × (getD times i 0 ≤ 1000000) × (getD vols i 0 ≤ 16000000))
+  due-ready times vols p q = (
+    good .n-high,
+    good .each k b .D-high,
+    λ i h.
+        let g = good .each i h in
+        (omega (arith, g .T-low, p i h), omega (arith, g .T-high, p i h), omega (arith, vol-high t good i h, q i h)),
+  )
+
+  -- what `margin_of` requires, and what it then gives
+  module _ (x y : ℕ) (l : x ≡ len t k) (d : y ≡ due t k) where
+    pub margin-ready : (1 ≤ t .m) × (t .m ≤ 8) × (D t k ≤ 1000000) × (x ≤ 16000000) × (y ≤ 240000016000000)
+    margin-ready = (
+      good .m-low,
+      good .m-high,
+      good .each k b .D-high,
+      omega (arith, len-vol t good k b, vol-high t good k b),
+      omega (arith, due-bound t good k b),
+    )
+
+    pub margin-found : (z : ℤ) → z ≡ pos (t .m * D t k) -ℤ pos ((t .m - 1) * x + y) → z ≡ margin t k
+    unfolding margin
+    margin-found z e = e ∙ ap₂ (λ (x y : ℕ). pos (t .m * D t k) -ℤ pos ((t .m - 1) * x + y)) l d
+
+-- ---- what the code computes stays small, whatever the numbers are
+pub quotient-fits : (x y : ℕ) → x < 2 ^ 32 → Fits w64 (x / y)
+quotient-fits x y h = record { fits = omega (arith, div-le-self x y) }
+
+pub product-small : (a b : ℕ) → a ≤ 8 → b ≤ 16000000 → a * b < 2 ^ 62
+product-small a b h k = omega (arith, mul-le-mul {n₂ = 8} {m₂ = 16000000} h k)
+
+pub spent-small : (a b c : ℕ) → a ≤ 8 → b ≤ 16000000 → c ≤ 240000016000000 → a * b + c < 2 ^ 62
+spent-small a b c h k l = omega (arith, mul-le-mul {n₂ = 8} {m₂ = 16000000} h k)
+
+pub product-fits : (a b : ℕ) → a ≤ 8 → b ≤ 16000000 → Fits w64 (a * b)
+product-fits a b h k = record { fits = omega (arith, product-small a b h k) }
+
+pub spent-fits : (a b c : ℕ) → a ≤ 8 → b ≤ 16000000 → c ≤ 240000016000000 → Fits w64 (a * b + c)
+spent-fits a b c h k l = record { fits = omega (arith, spent-small a b c h k l) }
+
+-- ---- a difference of two numbers as the machine has it
+either-mag : (c : Bool) (x y n : ℕ) → x ≤ n → y ≤ n → mag (cond c (negsuc x) (pos y)) ≤ n
+either-mag true x y n h k = h
+either-mag false x y n h k = k
+
+minus-mag : (a b : ℕ) → mag (pos a -ℤ pos b) ≤ a + b
+minus-mag a zero = omega arith
+minus-mag a (suc b) = either-mag (ltb a (suc b)) (suc b - suc a) (a - suc b) (a + suc b) (omega arith) (omega arith)
+
+pub minus-fits : {a b : ℕ} → a < 2 ^ 62 → b < 2 ^ 62 → SFits w64 (pos a -ℤ pos b)
+minus-fits {a} {b} h k = record { sfits = omega (arith, minus-mag a b) }
+
+-- what the code `(a as i64) - (b as i64)` computes
+pub cast-minus : {a b : ℕ} → a < 2 ^ 62 → b < 2 ^ 62 → pos a -ℤ pos b ≡ toZ w64 a -ℤ toZ w64 b
+cast-minus {a} {b} h k = sym (ap₂ (λ (x y : ℤ). x -ℤ y) (toZ-pos w64 {n = a} (omega arith)) (toZ-pos w64 {n = b} (omega arith)))
+
+-- a test that the code makes on the bits of signed numbers, as a test of the numbers
+pub signed-test : {a b : ℤ} {c : Bool} → SFits w64 a → SFits w64 b → ltZ (toZ w64 (ofZ w64 a)) (toZ w64 (ofZ w64 b)) ≡ c → ltZ a b ≡ c
+signed-test fa fb e = sym (ap₂ ltZ (toZ-ofZ fa) (toZ-ofZ fb)) ∙ e

@@ -1,0 +1,20 @@
+use mathlib.Core.Path.{ap₂}
+use Prim.Native.Nat.{ℕ}
+use lib.IntN.{pos}
+use borrow.Author.Needs.{needs}
+use Rattle.verdict.specs.Verdicts.{unread}
+use Rattle.verdict.proofs.judging.unread.Statement.{statement}
+use Rattle.verdict.proofs.judging.unread.Tie as tie
+
+number-requires : tie.Need-number-requires
+number-requires c κs = search needs
+
+place-requires : tie.Need-place-requires
+place-requires c κs = search needs
+
+returns : tie.Need-returns
+unfolding unread
+returns c = ap₂ (λ (n p : ℕ). record { number = n; place = p; task = 255; margin = pos 0 }) (c .before .number .ensures) (c .place .ensures)
+
+pub unread-spec : {M : Type 1} → statement M
+unread-spec = tie.close (tie.spec number-requires place-requires returns)

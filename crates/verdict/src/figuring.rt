@@ -1,0 +1,122 @@
+// The figures of a table's tasks: vol, len, due and margin. Document 01, "The verdict".
+ghost use mathlib.Core.Path.{_≡_};
+ghost use Prim.Native.Nat.{ℕ, _+_, _*_, _-_, _^_, _≤_, _<_};
+ghost use lib.ListN.{getD};
+ghost use lib.IntN.{pos, _-ℤ_};
+ghost use Rattle.graph.specs.Words.{sum, row};
+ghost use Rattle.graph.specs.Graph.{longestOf};
+ghost use Rattle.table.specs.Memory.{T};
+ghost use Rattle.table.specs.Good.{GoodTable};
+ghost use Rattle.verdict.specs.Verdicts.{roundedUp, vol};
+use table::Table;
+
+// A number of 32 bits in 64.
+fn wide(x: u32) -> u64
+    ensures { λ r. ⌜ (r ≡ x) × (r < 4294967296) ⌝ }
+{
+    x as u64
+}
+
+// The sum of the first v of task i's sixteen costs.
+fn vol_of(costs: &[u32; 256], i: usize, v: usize) -> u64
+    requires { ⌜ (i < 16) × (v ≤ 16) ⌝ }
+    ensures { λ r. ⌜ r ≡ sum v (λ u. getD (now (costs .entry)) (16 * i + u) 0) ⌝ }
+{
+    let mut total: u64 = 0;
+    let mut u: usize = 0;
+    while u < v {
+        total += wide(costs[16 * i + u]);
+        u += 1;
+    }
+    total
+}
+
+// The vol of each task.
+pub(crate) fn volumes(t: Table) -> [u64; 16]
+    requires { ⌜ GoodTable t ⌝ }
+    ensures { λ r. ⌜ ((i : ℕ) → i < t .n → getD r i 0 ≡ vol t i) ⌝ }
+{
+    let mut vols = [0u64; 16];
+    let mut i: usize = 0;
+    while i < t.n as usize {
+        let v = t.tasks[i].v;
+        vols[i] = vol_of(&t.costs, i, v as usize);
+        i += 1;
+    }
+    vols
+}
+
+// The period of each task.
+pub(crate) fn periods(t: Table) -> [u32; 16]
+    requires { ⌜ GoodTable t ⌝ }
+    ensures { λ r. ⌜ ((i : ℕ) → i < t .n → getD r i 0 ≡ T t i) ⌝ }
+{
+    let mut times = [0u32; 16];
+    let mut i: usize = 0;
+    while i < t.n as usize {
+        times[i] = t.tasks[i].t;
+        i += 1;
+    }
+    times
+}
+
+// Task i's own sixteen costs.
+fn own_costs(costs: &[u32; 256], i: usize) -> [u32; 16]
+    requires { ⌜ i < 16 ⌝ }
+    ensures { λ r. ⌜ r ≡ row 16 (λ u. getD (now (costs .entry)) (16 * i + u) 0) ⌝ }
+{
+    let mut own = [0u32; 16];
+    let mut u: usize = 0;
+    while u < 16 {
+        own[u] = costs[16 * i + u];
+        u += 1;
+    }
+    own
+}
+
+// The longest chain of task i, whose successors are given.
+pub(crate) fn len_of(costs: &[u32; 256], i: usize, succ: [u16; 16]) -> u64
+    requires { ⌜ i < 16 ⌝ }
+    ensures { λ r. ⌜ r ≡ longestOf succ (row 16 (λ u. getD (now (costs .entry)) (16 * i + u) 0)) ⌝ }
+{
+    let own = own_costs(costs, i);
+    graph::longest(succ, own)
+}
+
+// d divided by t, rounded up: a division of 32 bits.
+fn rounded_up(d: u32, t: u32) -> u64
+    requires { ⌜ (d ≤ 1000000) × (1 ≤ t) × (t ≤ 1000000) ⌝ }
+    ensures { λ r. ⌜ (r ≡ roundedUp d t) × (r ≤ 1000000) ⌝ }
+{
+    ((d + (t - 1)) / t) as u64
+}
+
+// What n tasks of these periods and vols owe within d ticks.
+pub(crate) fn due_of(n: usize, d: u32, times: [u32; 16], vols: [u64; 16]) -> u64
+    requires { ⌜ (n ≤ 16) × (d ≤ 1000000) × ((i : ℕ) → i < n → (1 ≤ getD times i 0) × (getD times i 0 ≤ 1000000) × (getD vols i 0 ≤ 16000000)) ⌝ }
+    ensures { λ r. ⌜ r ≡ sum n (λ i. roundedUp d (getD times i 0) * getD vols i 0) ⌝ }
+{
+    let mut due: u64 = 0;
+    let mut i: usize = 0;
+    while i < n {
+        due += rounded_up(d, times[i]) * vols[i];
+        i += 1;
+    }
+    due
+}
+
+// a less b, a signed number.
+fn less(a: u64, b: u64) -> i64
+    requires { ⌜ (a < 2 ^ 62) × (b < 2 ^ 62) ⌝ }
+    ensures { λ r. ⌜ r ≡ pos a -ℤ pos b ⌝ }
+{
+    (a as i64) - (b as i64)
+}
+
+// m times d, less (m minus 1) times len, less due: one signed subtraction.
+pub(crate) fn margin_of(m: u64, d: u64, len: u64, due: u64) -> i64
+    requires { ⌜ (1 ≤ m) × (m ≤ 8) × (d ≤ 1000000) × (len ≤ 16000000) × (due ≤ 240000016000000) ⌝ }
+    ensures { λ r. ⌜ r ≡ pos (m * d) -ℤ pos ((m - 1) * len + due) ⌝ }
+{
+    less(m * d, (m - 1) * len + due)
+}
