@@ -128,6 +128,34 @@ unfolding trailingZeros
 lowest-lt zero x p h = absurd (omega arith)
 lowest-lt (suc d) x p h = under-lt d (x % 2) (trailingZeros d (x / 2)) (λ e. lowest-lt d (x / 2) (omega arith) (half-lt x d h))
 
+-- without its lowest member, as the code `x & (x - 1)` says it
+lower-step : (x r t : ℕ) → 0 < x → x % 2 ≡ r → r < 2 → (r ≡ 0 → (k : ℕ) → (bit (x / 2) k && bit (x / 2 - 1) k) ≡ (bit (x / 2) k && not (eqb k t)))
+    → (k : ℕ) → (bit x k && bit (x - 1) k) ≡ (bit x k && not (eqb k (under r t)))
+lower-step x zero t p e h l zero = let z : bit x 0 ≡ false = bit-low x ∙ ap (λ (n : ℕ). eqb n 1) e in rw z refl
+lower-step x zero t p e h l (suc k) =
+    let q : (x - 1) / 2 ≡ x / 2 - 1 = omega arith in
+    rw (bit-up x k, bit-up (x - 1) k, q, eqb·suc-suc k t) (l refl k)
+lower-step x (suc zero) t p e h l zero =
+    let q : (x - 1) % 2 ≡ 0 = omega arith in
+    let z : bit (x - 1) 0 ≡ false = bit-low (x - 1) ∙ ap (λ (n : ℕ). eqb n 1) q in
+    rw z refl
+lower-step x (suc zero) t p e h l (suc k) =
+    let q : (x - 1) / 2 ≡ x / 2 = omega arith in
+    rw (bit-up x k, bit-up (x - 1) k, q, eqb·suc-zero k) (go (bit (x / 2) k))
+  where
+    go : (b : Bool) → (b && b) ≡ (b && true)
+    go true = refl
+    go false = refl
+lower-step x (suc (suc r)) t p e h l k = absurd (omega arith)
+
+lower : (d x : ℕ) → 0 < x → x < 2 ^ d → (k : ℕ) → (bit x k && bit (x - 1) k) ≡ (bit x k && not (eqb k (trailingZeros d x)))
+unfolding trailingZeros
+lower zero x p h = absurd (omega arith)
+lower (suc d) x p h = lower-step x (x % 2) (trailingZeros d (x / 2)) p refl (mod-lt x two-pos) (λ e. lower d (x / 2) (omega arith) (half-lt x d h))
+
+pub lowest-less : (d x : ℕ) → 0 < x → x < 2 ^ d → (k : ℕ) → bit (bitAnd x (x - 1)) k ≡ (bit x k && not (eqb k (trailingZeros d x)))
+lowest-less d x p h k = bit-and x (x - 1) k ∙ lower d x p h k
+
 -- the set of all but those of y
 not-low : (a b : ℕ) → a < 2 → a + b ≡ 1 → eqb b 1 ≡ not (eqb a 1)
 not-low zero (suc zero) h e = refl

@@ -2,7 +2,7 @@
 use mathlib.Core.Path.{_≡_, refl, sym, ap, _∙_}
 use mathlib.Core.Bool.{Bool, true, false, not, _&&_}
 use mathlib.Core.List.{List, [], _∷_}
-use Prim.Native.Nat.{ℕ, zero, suc, _+_, _^_, _-_, _*_, _%_, _≤_, _<_}
+use Prim.Native.Nat.{ℕ, zero, suc, _+_, _^_, _-_, _≤_, _<_}
 use native.Mathlib.Omega.{arith}
 use native.Mathlib.Decide.{ℕ-discrete, decLt}
 use lib.ListN.{length}
@@ -109,21 +109,18 @@ first-is x h =
     none = sym (lowest-none 16 16 (bit 0) (λ j b. B.bit-zero j))
 
 -- a set that is not empty: its lowest, and the others
-pub members-first : (x : ℕ) → 0 < x → x < 2 ^ 16
-    → (lowest 16 16 (bit x) < 16) × (members x ≡ lowest 16 16 (bit x) ∷ members (bitAnd x (65535 - 1 * 2 ^ lowest 16 16 (bit x) % 65536)))
+pub members-first : (x : ℕ) → 0 < x → x < 2 ^ 16 → members x ≡ lowest 16 16 (bit x) ∷ members (bitAnd x (x - 1))
 unfolding members
 members-first x p h =
     let l = B.lowest 16 x p h in
-    let b = B.lowest-lt 16 x p h in
-    let t = trailingZeros 16 x in
     rw (← first-is x h)
-    (b, below-first (bit x) (bit (bitAnd x (65535 - 1 * 2 ^ t % 65536))) t (l .here) (l .below) 16 b (λ k c. B.one-less x t k b c))
+    (below-first (bit x) (bit (bitAnd x (x - 1))) (trailingZeros 16 x) (l .here) (l .below) 16 (B.lowest-lt 16 x p h) (λ k c. B.lowest-less 16 x p h k))
 
 pub members-none : (x : ℕ) → x < 2 ^ 16 → isNone (members x) ≡ eqb x 0
 unfolding isNone
 members-none x h =
     elim (decLt 0 x) [
-      | yes p ↦ ap isNone (members-first x p h .1) ∙ sym (ne-eqb x 0 (λ z. omega arith))
+      | yes p ↦ ap isNone (members-first x p h) ∙ sym (ne-eqb x 0 (λ z. omega arith))
       | no p ↦ let z : x ≡ 0 = omega arith in rw z (ap isNone members-zero)
     ]
 

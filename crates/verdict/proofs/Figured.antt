@@ -16,9 +16,9 @@ use mir.Syntax.{w64}
 use mir.Val.{Fits, SFits, toZ, ofZ}
 use mir.Facts.{toZ-pos, toZ-ofZ}
 use Rattle.graph.specs.Words.{sum, row}
-use Rattle.graph.specs.Graph.{edge, acyclic, Chain, alone, joined, sumAlong, longest, longestOf}
+use Rattle.graph.specs.Graph.{longestOf}
 use Rattle.graph.proofs.Facts.{sum-same, length-row, row-at}
-use Rattle.graph.proofs.Long.{longest-bounds, longest-reached}
+use Rattle.graph.proofs.Narrow.{longestOf-is}
 use Rattle.table.specs.declared.Table.{Table}
 use Rattle.table.specs.Memory.{vertices, D, T, succ, edgeIn, cost}
 use Rattle.table.specs.Good.{GoodTable}
@@ -54,64 +54,15 @@ filled-row {f} {a} r =
     ext-getD 0 a (row 16 f) (r .size ∙ sym (length-row 16 f))
     (λ i h. let l : i < 16 = omega (arith, r .size) in r .each i l ∙ sym (row-at 16 f i 0 l))
 
--- ---- a graph whose vertices from v on have no edge and no cost: its longest chain is one of the first v
-module _ (v : ℕ) (succ : List ℕ) (f g : ℕ → ℕ) (v1 : 1 ≤ v) (v16 : v ≤ 16) (passes : acyclic succ ≡ true)
-    (ends : (u w : ℕ) → edge succ u w ≡ true → (u < v) × (w < v)) (same : (u : ℕ) → u < 16 → g u ≡ f u)
-    (none : (u : ℕ) → v ≤ u → u < 16 → f u ≡ 0) where
-  wider : (c : List ℕ) → Chain v (edge succ) c → Chain 16 (edge succ) c
-  wider (u ∷ []) (alone h) = let l : u < 16 = omega arith in alone l
-  wider (u ∷ w ∷ c) (joined h e d) = let l : u < 16 = omega arith in joined l e (wider (w ∷ c) d)
-
-  narrower : (u : ℕ) (c : List ℕ) → u < v → Chain 16 (edge succ) (u ∷ c) → Chain v (edge succ) (u ∷ c)
-  narrower u [] b (alone h) = alone b
-  narrower u (w ∷ c) b (joined h e d) = joined b e (narrower w c (ends u w e .1) d)
-
-  along-same : (c : List ℕ) → Chain 16 (edge succ) c → sumAlong g c ≡ sumAlong f c
-  unfolding sumAlong
-  along-same (u ∷ []) (alone h) = ap (λ (x : ℕ). x + 0) (same u h)
-  along-same (u ∷ w ∷ c) (joined h e d) = ap₂ (λ (x y : ℕ). x + y) (same u h) (along-same (w ∷ c) d)
-
-  outside : (u : ℕ) (c : List ℕ) → v ≤ u → Chain 16 (edge succ) (u ∷ c) → sumAlong f (u ∷ c) ≡ 0
-  unfolding sumAlong
-  outside u [] b (alone h) = ap (λ (x : ℕ). x + 0) (none u b h)
-  outside u (w ∷ c) b (joined h e d) = absurd (omega (arith, ends u w e .0))
-
-  most : (c : List ℕ) → Chain 16 (edge succ) c → sumAlong f c ≤ longest v (edge succ) f
-  most [] h = absurd (never h)
-    where
-      never : Chain 16 (edge succ) [] → ⊥
-      never = elim [ ]
-  most (u ∷ c) h = elim (decLt u v) [
-    | yes b ↦ longest-bounds v succ f v16 passes (u ∷ c) (narrower u c b h)
-    | no b ↦ omega (arith, outside u c (omega arith) h)
-  ]
-
-  pub longest-within : longest 16 (edge succ) g ≡ longest v (edge succ) f
-  longest-within =
-      let r = longest-reached 16 succ g (omega arith) passes (omega arith) in
-      let s = longest-reached v succ f v16 passes v1 in
-      let h = wider (s .0) (s .1) in
-      omega (
-        arith,
-        r .2,
-        along-same (r .0) (r .1),
-        most (r .0) (r .1),
-        s .2,
-        along-same (s .0) h,
-        longest-bounds 16 succ g (omega arith) passes (s .0) h,
-      )
-
 module _ (t : Table) (good : GoodTable t) (k : ℕ) (b : k < t .n) where
   -- the longest chain of the successors and the sixteen costs as they lie in memory is len
   pub len-found : (x : ℕ) → x ≡ longestOf (succ t k) (row 16 (λ u. getD (t .costs) (16 * k + u) 0)) → x ≡ len t k
-  unfolding longestOf len edgeIn cost
+  unfolding len edgeIn cost
   len-found x e =
       let g = good .each k b in
       e
-      ∙ rw (g .no-cycle)
-      (longest-within (vertices t k) (succ t k) (cost t k) (λ u. getD (row 16 (λ u. getD (t .costs) (16 * k + u) 0)) u 0)
-      (g .v-low) (g .v-high) (g .no-cycle) (λ u w e. let q = g .ends u w e in (q .0, q .1))
-      (λ u h. row-at 16 (λ u. getD (t .costs) (16 * k + u) 0) u 0 h) (g .unused))
+      ∙ longestOf-is (vertices t k) (succ t k) (row 16 (λ u. getD (t .costs) (16 * k + u) 0)) (cost t k) (g .v-high) (g .no-cycle)
+      (λ u w e. let q = g .ends u w e in (q .0, q .1)) (λ u h. row-at 16 (λ u. getD (t .costs) (16 * k + u) 0) u 0 h) (g .unused)
 
   -- what is due, over rows that hold the periods and the vols
   pub due-found : (times vols : List ℕ) → ((i : ℕ) → i < t .n → getD times i 0 ≡ T t i) → ((i : ℕ) → i < t .n → getD vols i 0 ≡ vol t i)

@@ -1,5 +1,6 @@
--- The writer's tests 3 to 7 on the table itself, in file order, each at the place that its field has in the file. They refuse
--- "exactly as a reader would for the bytes that the table stands for": theorem `checked-is`, proofs/Checks.antt.
+-- The writer's tests 3 to 7 on the table itself, in file order, each at the place that its field has in the file, as the code makes
+-- them. Nobody has to believe them: they refuse "exactly as a reader would for the bytes that the table stands for", which is how
+-- the table's Writing.antt says it (theorem `checked-is`, proofs/Checks.antt).
 use mathlib.Core.Bool.{Bool, _&&_, _||_, not}
 use mathlib.Core.List.{List, [], _∷_, _++_}
 use Prim.Native.Nat.{ℕ, zero, suc, _+_, _*_, _/_, _%_}
@@ -14,10 +15,11 @@ use Rattle.table.specs.declared.Outcome.the-variants.{Read, Range, Ticks, Edge,
 use Rattle.writer.specs.declared.Checked.{Checked}
 use Rattle.table.specs.declared.Field.{Field}
 use Rattle.table.specs.declared.Field.the-variants.{Stop, Got}
-use Rattle.table.specs.Memory.{task, D, T, succ}
+use Rattle.table.specs.Memory.{task}
 use Rattle.table.specs.Reading.{onward, whenRead, ranged, notUnder}
 use Rattle.table.specs.Writing.{bytes4, edgeBytes}
 
+-- a refusal, with no place after it
 unfoldable pub stopped : Outcome → Checked
 stopped o = record { outcome = o; next = 0 }
 

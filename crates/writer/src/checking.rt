@@ -170,33 +170,37 @@ fn check_task(task: Task, costs: &[u32; 256], slot: usize, at: usize) -> Checked
     requires { ⌜ (slot + 16 ≤ 256) × (at ≤ 800000) ⌝ }
     ensures { λ r. ⌜ r ≡ taskTested task (now (costs .entry)) slot at ⌝ }
 {
+    let at_v = at + 2;
+    let at_e = at + 3;
+    let at_d = at + 4;
+    let at_t = at + 8;
     let v = task.v as usize;
     if v < 1 {
-        return stop(Outcome::Range(at + 2));
+        return stop(Outcome::Range(at_v));
     }
     if 16 < v {
-        return stop(Outcome::Range(at + 2));
+        return stop(Outcome::Range(at_v));
     }
     let succ = task.succ;
     if 120 < edge_count(succ, v) {
-        return stop(Outcome::Range(at + 3));
+        return stop(Outcome::Range(at_e));
     }
     let d = task.d;
     if d < 1 {
-        return stop(Outcome::Ticks(at + 4));
+        return stop(Outcome::Ticks(at_d));
     }
     if 1_000_000 < d {
-        return stop(Outcome::Ticks(at + 4));
+        return stop(Outcome::Ticks(at_d));
     }
     let t = task.t;
     if t < 1 {
-        return stop(Outcome::Ticks(at + 8));
+        return stop(Outcome::Ticks(at_t));
     }
     if 1_000_000 < t {
-        return stop(Outcome::Ticks(at + 8));
+        return stop(Outcome::Ticks(at_t));
     }
     if t < d {
-        return stop(Outcome::Order(at + 8));
+        return stop(Outcome::Order(at_t));
     }
     check_parts(succ, costs, slot, v, at)
 }

@@ -15,29 +15,35 @@ Inv-loop succ left₀ left = (left < 2 ^ 16) × (comesToNone succ left ≡ acycl
 abbrev μ-loop : tie.MeasureT-loop
 μ-loop succ left₀ left = left
 
+led-from-all-requires : tie.Need-led-from-all-requires Inv-loop μ-loop
+led-from-all-requires c κs = search needs
+
 loop-holds : tie.Need-loop-holds Inv-loop μ-loop
-loop-holds c = (omega arith, all-in (c .args .succ))
+loop-holds c =
+    let s = c .before .args .t1 in
+    let f = c .led-from-all in
+    (omega (arith, and-le-l 65535 (f .result)), round-on s 65535 (f .result) (f .ensures) ∙ all-in s)
 
 led-from-requires : tie.Need-led-from-requires Inv-loop μ-loop
 led-from-requires c κs = search needs
 
 returns : tie.Need-returns Inv-loop μ-loop
 returns c =
-    let a = c .before .before .before .args in
-    let l = c .before .before .loop in
+    let a = c .before .before .before .before .before .args in
+    let l = c .before .before .before .loop in
     let f = c .before .led-from in
-    sym (round-end (a .succ) (l .left) (f .result) (f .ensures) (l .inv .0) (c .if1 .taken)) ∙ l .inv .1
+    sym (round-end (a .t1) (l .left) (f .result) (f .ensures) (l .inv .0) (c .if1 .taken)) ∙ l .inv .1
 
 loop-less : tie.Need-loop-less Inv-loop μ-loop
-loop-less c = omega (arith, and-le-l (c .before .before .loop .left) (c .before .led-from .result))
+loop-less c = omega (arith, and-le-l (c .before .before .before .loop .left) (c .before .led-from .result))
 
 loop-again : tie.Need-loop-again Inv-loop μ-loop
 loop-again c =
-    let a = c .before .before .before .args in
-    let l = c .before .before .loop in
+    let a = c .before .before .before .before .before .args in
+    let l = c .before .before .before .loop in
     let f = c .before .led-from in
-    (omega (arith, and-le-l (l .left) (f .result)), round-on (a .succ) (l .left) (f .result) (f .ensures) ∙ l .inv .1)
+    (omega (arith, and-le-l (l .left) (f .result)), round-on (a .t1) (l .left) (f .result) (f .ensures) ∙ l .inv .1)
 
 pub is-acyclic-spec : {M : Type 1} → statement M
 is-acyclic-spec =
-    tie.close (tie.spec Inv-loop μ-loop loop-holds led-from-requires returns loop-less loop-again)
+    tie.close (tie.spec Inv-loop μ-loop led-from-all-requires loop-holds led-from-requires returns loop-less loop-again)

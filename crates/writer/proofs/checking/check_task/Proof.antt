@@ -5,11 +5,20 @@ use Rattle.writer.proofs.TaskTests.{v-under, v-over, e-over, d-under, d
 use Rattle.writer.proofs.checking.check_task.Statement.{statement}
 use Rattle.writer.proofs.checking.check_task.Tie as tie
 
+add-at-v : tie.Need-add-at-v
+add-at-v c = search needs
+
+add-at-e : tie.Need-add-at-e
+add-at-e c = search needs
+
+add-at-d : tie.Need-add-at-d
+add-at-d c = search needs
+
+add-at-t : tie.Need-add-at-t
+add-at-t c = search needs
+
 cast-v : tie.Need-cast-v
 cast-v c = search needs
-
-add-t10 : tie.Need-add-t10
-add-t10 c = search needs
 
 stop-requires : tie.Need-stop-requires
 stop-requires c κs = search needs
@@ -18,9 +27,6 @@ returns : tie.Need-returns
 returns c =
     let a = c .before .before .before .args in
     c .stop .ensures ∙ v-under (a .task) (a .costs .now) (a .slot) (a .at) (omega arith)
-
-add-t12 : tie.Need-add-t12
-add-t12 c = search needs
 
 stop-requires-2 : tie.Need-stop-requires-2
 stop-requires-2 c κs = search needs
@@ -33,9 +39,6 @@ returns-2 c =
 edge-count-requires : tie.Need-edge-count-requires
 edge-count-requires c κs = search needs
 
-add-t15 : tie.Need-add-t15
-add-t15 c = search needs
-
 stop-requires-3 : tie.Need-stop-requires-3
 stop-requires-3 c κs = search needs
 
@@ -44,9 +47,6 @@ returns-3 c =
     let a = c .before .before .before .before .before .before .before .args in
     let e = c .before .before .edge-count .ensures .0 in
     c .stop3 .ensures ∙ e-over (a .task) (a .costs .now) (a .slot) (a .at) (omega arith) (omega arith) (omega arith)
-
-add-t17 : tie.Need-add-t17
-add-t17 c = search needs
 
 stop-requires-4 : tie.Need-stop-requires-4
 stop-requires-4 c κs = search needs
@@ -57,9 +57,6 @@ returns-4 c =
     let e = c .before .before .before .edge-count .ensures .0 in
     c .stop4 .ensures ∙ d-under (a .task) (a .costs .now) (a .slot) (a .at) (omega arith) (omega arith) (omega arith) (omega arith)
 
-add-t19 : tie.Need-add-t19
-add-t19 c = search needs
-
 stop-requires-5 : tie.Need-stop-requires-5
 stop-requires-5 c κs = search needs
 
@@ -68,9 +65,6 @@ returns-5 c =
     let a = c .before .before .before .before .before .before .before .before .before .args in
     let e = c .before .before .before .before .edge-count .ensures .0 in
     c .stop5 .ensures ∙ d-over (a .task) (a .costs .now) (a .slot) (a .at) (omega arith) (omega arith) (omega arith) (omega arith)
-
-add-t21 : tie.Need-add-t21
-add-t21 c = search needs
 
 stop-requires-6 : tie.Need-stop-requires-6
 stop-requires-6 c κs = search needs
@@ -81,9 +75,6 @@ returns-6 c =
     let e = c .before .before .before .before .before .edge-count .ensures .0 in
     c .stop6 .ensures ∙ t-under (a .task) (a .costs .now) (a .slot) (a .at) (omega arith) (omega arith) (omega arith) (omega arith) (omega arith) (omega arith)
 
-add-t23 : tie.Need-add-t23
-add-t23 c = search needs
-
 stop-requires-7 : tie.Need-stop-requires-7
 stop-requires-7 c κs = search needs
 
@@ -92,9 +83,6 @@ returns-7 c =
     let a = c .before .before .before .before .before .before .before .before .before .before .before .args in
     let e = c .before .before .before .before .before .before .edge-count .ensures .0 in
     c .stop7 .ensures ∙ t-over (a .task) (a .costs .now) (a .slot) (a .at) (omega arith) (omega arith) (omega arith) (omega arith) (omega arith) (omega arith)
-
-add-t25 : tie.Need-add-t25
-add-t25 c = search needs
 
 stop-requires-8 : tie.Need-stop-requires-8
 stop-requires-8 c κs = search needs
@@ -118,30 +106,26 @@ pub check-task-spec : {M : Type 1} → statement M
 check-task-spec =
     tie.close
     (tie.spec
+    add-at-v
+    add-at-e
+    add-at-d
+    add-at-t
     cast-v
-    add-t10
     stop-requires
     returns
-    add-t12
     stop-requires-2
     returns-2
     edge-count-requires
-    add-t15
     stop-requires-3
     returns-3
-    add-t17
     stop-requires-4
     returns-4
-    add-t19
     stop-requires-5
     returns-5
-    add-t21
     stop-requires-6
     returns-6
-    add-t23
     stop-requires-7
     returns-7
-    add-t25
     stop-requires-8
     returns-8
     check-parts-requires
