@@ -1,4 +1,4 @@
-/* The C face from C: table A of document 01 is read and written back. */
+/* The C face from C: table A of document 01 is read, written back, judged and reported. */
 #include "milltundra.h"
 #include <stdio.h>
 #include <string.h>
@@ -7,6 +7,12 @@ static const uint8_t a[52] = {
     0x54, 0x42, 2, 2,
     0x54, 0x4B, 3, 2, 10, 0, 0, 0, 12, 0, 0, 0, 2, 0, 0, 0, 3, 0, 0, 0, 1, 0, 0, 0, 0, 1, 0, 2,
     0x54, 0x4B, 2, 0, 6, 0, 0, 0, 6, 0, 0, 0, 2, 0, 0, 0, 2, 0, 0, 0};
+
+static const char text[] =
+    "processors 2 tasks 2\n"
+    "task 0 vol 6 len 5 due 14 margin 1\n"
+    "task 1 vol 4 len 2 due 10 margin 0\n"
+    "accept task 1 margin 0\n";
 
 static int failed(const char *what) {
     fprintf(stderr, "the C face from C: %s\n", what);
@@ -32,6 +38,25 @@ int main(void) {
     r = mt_read(a, 51);
     if (r.number != MT_SHORT || r.place != 48 || r.table.m != 0)
         return failed("a file cut short is not refused");
-    puts("the C face from C: table A is read and written back");
+    struct mt_verdict_answer v = mt_verdict(a, sizeof a);
+    if (v.number != MT_DONE || v.task != 1 || v.place != 0 || v.margin != 0)
+        return failed("table A is not accepted");
+    uint8_t one[52];
+    memcpy(one, a, sizeof a);
+    one[2] = 1;
+    v = mt_verdict(one, sizeof one);
+    if (v.number != MT_REFUSED || v.task != 0 || v.place != 0 || v.margin != -4)
+        return failed("table A with one processor is not refused");
+    v = mt_verdict(a, 51);
+    if (v.number != MT_SHORT || v.task != MT_NO_TASK || v.place != 48 || v.margin != 0)
+        return failed("a file cut short is judged");
+    size_t length = sizeof text - 1;
+    uint8_t report[MT_REPORT_MOST];
+    memset(report, 0xA5, sizeof report);
+    if (mt_report(a, sizeof a, report, length - 1) != length || report[0] != 0xA5)
+        return failed("a report that does not fit is written");
+    if (mt_report(a, sizeof a, report, sizeof report) != length || memcmp(report, text, length) != 0 || report[length] != 0xA5)
+        return failed("the report on table A is wrong");
+    puts("the C face from C: table A is read, written back, judged and reported");
     return 0;
 }

@@ -21,8 +21,20 @@ enum {
     MT_UNUSED = 10  /* writing: an unused entry is not zero */
 };
 
+/* The verdict's numbers, besides 0 for accepted and those of reading. */
+enum {
+    MT_REFUSED = 20,    /* some margin is negative */
+    MT_LONG_CHAIN = 21  /* no margin is negative but some len exceeds its D; by a theorem this never comes */
+};
+
+/* The task of an answer that names none. */
+enum { MT_NO_TASK = 255 };
+
 /* The largest file in bytes. */
 enum { MT_LARGEST = 5060 };
+
+/* A buffer of this many bytes holds every report. */
+enum { MT_REPORT_MOST = 1312 };
 
 /* A task: vertices, deadline, period, and for each vertex its successors as sixteen bits. */
 struct mt_task {
@@ -53,10 +65,26 @@ struct mt_write_answer {
     uint64_t place;
 };
 
+/* The verdict's number, the task that it names (MT_NO_TASK for a file that reading refuses), reading's place (otherwise 0), and
+   that task's margin (0 where there is none). */
+struct mt_verdict_answer {
+    uint8_t number;
+    uint8_t task;
+    uint64_t place;
+    int64_t margin;
+};
+
 /* Reads a table file. */
 struct mt_read_answer mt_read(const uint8_t *bytes, size_t count);
 
 /* Writes a table's file to the front of the buffer and leaves the rest; a refusal writes nothing. */
 struct mt_write_answer mt_write(struct mt_table table, uint8_t *buffer, size_t count);
+
+/* The verdict on a table file. */
+struct mt_verdict_answer mt_verdict(const uint8_t *bytes, size_t count);
+
+/* The length of the report on a table file. Its text is written to the front of the buffer if it fits there, and the rest is left;
+   nothing is written otherwise. */
+uint64_t mt_report(const uint8_t *bytes, size_t count, uint8_t *buffer, size_t room);
 
 #endif

@@ -9,6 +9,8 @@ pub struct Comparison {
     pub name: &'static str,
     /// Makes one input and compares; the number that both sides answered, or how they differ.
     pub one: fn(&mut Random) -> Result<u8, Difference>,
+    /// It gets one input in so many of those that are asked for.
+    pub share: u64,
     /// The numbers that a long run has to meet, each at least once.
     pub must_meet: &'static [u8],
 }

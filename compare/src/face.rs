@@ -40,13 +40,28 @@ pub struct WriteAnswer {
     pub place: u64,
 }
 
+/// `struct mt_verdict_answer`
+#[repr(C)]
+#[derive(Clone, Copy, PartialEq, Eq, Debug)]
+pub struct VerdictAnswer {
+    pub number: u8,
+    pub task: u8,
+    pub place: u64,
+    pub margin: i64,
+}
+
+/// `MT_REPORT_MOST`: a buffer of this many bytes holds every report.
+pub const REPORT_MOST: usize = 1312;
+
 /// The functions themselves, for measurements.
 pub mod entry {
-    use super::{ReadAnswer, Table, WriteAnswer};
+    use super::{ReadAnswer, Table, VerdictAnswer, WriteAnswer};
 
     extern "C" {
         pub fn mt_read(bytes: *const u8, count: usize) -> ReadAnswer;
         pub fn mt_write(table: Table, buffer: *mut u8, count: usize) -> WriteAnswer;
+        pub fn mt_verdict(bytes: *const u8, count: usize) -> VerdictAnswer;
+        pub fn mt_report(bytes: *const u8, count: usize, buffer: *mut u8, room: usize) -> u64;
     }
 }
 
@@ -58,6 +73,23 @@ pub fn read(bytes: &[u8]) -> ReadAnswer {
 pub fn write(table: Table, buffer: &mut [u8]) -> WriteAnswer {
     // Safe: the pointer and the count are those of a slice that nobody else holds, and any table gets an answer.
     unsafe { entry::mt_write(table, buffer.as_mut_ptr(), buffer.len()) }
+}
+
+pub fn verdict(bytes: &[u8]) -> VerdictAnswer {
+    // Safe: as for `read`.
+    unsafe { entry::mt_verdict(bytes.as_ptr(), bytes.len()) }
+}
+
+pub fn report(bytes: &[u8], buffer: &mut [u8]) -> u64 {
+    // Safe: both pointers and counts are those of slices, the second one's held by nobody else, and any bytes get an answer.
+    unsafe {
+        entry::mt_report(
+            bytes.as_ptr(),
+            bytes.len(),
+            buffer.as_mut_ptr(),
+            buffer.len(),
+        )
+    }
 }
 
 impl From<&second::Table> for Table {

@@ -2,8 +2,15 @@
 
 pub mod comparison;
 pub mod face;
+pub mod judging;
 pub mod reading;
+pub mod reporting;
 pub mod writing;
 
 /// Every comparison; a new one is a line here.
-pub const COMPARISONS: [comparison::Comparison; 2] = [reading::READING, writing::WRITING];
+pub const COMPARISONS: [comparison::Comparison; 4] = [
+    reading::READING,
+    writing::WRITING,
+    judging::JUDGING,
+    reporting::REPORTING,
+];

@@ -9,7 +9,7 @@ use std::time::{Instant, SystemTime, UNIX_EPOCH};
 
 const USAGE: &str = "compare [--seed X] [--inputs N] [--only NAME]
     X   seed of the first input, from the clock where it is not given; the input after it has X + 1
-    N   inputs of each comparison, 200,000 where it is not given
+    N   inputs of a comparison, 200,000 where it is not given; the reports get a quarter of them
 ";
 
 /// From this many inputs on, each number that must be met has to be met.
@@ -72,7 +72,8 @@ fn words() -> Option<Wanted> {
 fn run(comparison: &Comparison, wanted: &Wanted) -> bool {
     let start = Instant::now();
     let mut met = [0u64; NUMBERS];
-    for k in 0..wanted.inputs {
+    let inputs = wanted.inputs.div_ceil(comparison.share);
+    for k in 0..inputs {
         let seed = wanted.seed.wrapping_add(k);
         match (comparison.one)(&mut Random::new(seed)) {
             Ok(number) => met[usize::from(number)] += 1,
@@ -89,7 +90,7 @@ fn run(comparison: &Comparison, wanted: &Wanted) -> bool {
     println!(
         "{}: {} inputs equal in {:.1} s; number:count {}",
         comparison.name,
-        wanted.inputs,
+        inputs,
         start.elapsed().as_secs_f64(),
         each.join(" ")
     );

@@ -7,6 +7,7 @@ use second::random::*;
 pub const READING: Comparison = Comparison {
     name: "read",
     one,
+    share: 1,
     must_meet: &[0, 1, 2, 3, 4, 5, 6, 7, 8],
 };
 

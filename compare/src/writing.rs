@@ -8,6 +8,7 @@ use second::table::LARGEST;
 pub const WRITING: Comparison = Comparison {
     name: "write",
     one,
+    share: 1,
     must_meet: &[0, 3, 4, 5, 6, 7, 9, 10],
 };
 

@@ -2,13 +2,16 @@
 use mathlib.Core.Path.{_≡_, refl}
 use mathlib.Core.List.{List}
 use Prim.Native.Nat.{ℕ}
-use Rattle.panel.specs.Answers.{readAnswer, writeAnswer}
+use lib.IntN.{ℤ}
+use Rattle.panel.specs.Answers.{readAnswer, writeAnswer, verdictAnswer}
 use Rattle.table.specs.declared.Loaded.{Loaded}
 use Rattle.table.specs.declared.Table.{Table}
 use Rattle.table.specs.declared.Written.{Written}
 use Rattle.table.specs.Numbers.{number, place, writingNumber, writingPlace}
 use Rattle.table.specs.Reading.{read}
 use Rattle.table.specs.Writing.{writing}
+use Rattle.verdict.specs.declared.Verdict.{Verdict}
+use Rattle.verdict.specs.Verdicts.{verdict}
 
 pub answers-read : (s : List ℕ) (l : Loaded) (n p : ℕ) → l ≡ read s → n ≡ number (l .outcome) → p ≡ place (l .outcome) → readAnswer s ≡ record { number = n; place = p; table = l .table }
 unfolding readAnswer
@@ -17,3 +20,8 @@ answers-read s l n p is-read is-number is-place = rw is-number (rw is-place (rw 
 pub answers-write : (t : Table) (room : ℕ) (w : Written) (n p : ℕ) → w ≡ writing t room → n ≡ writingNumber w → p ≡ writingPlace w → writeAnswer t room ≡ record { number = n; place = p }
 unfolding writeAnswer
 answers-write t room w n p is-written is-number is-place = rw is-number (rw is-place (rw is-written refl))
+
+-- z is the margin as the machine reads it back from its bits
+pub answers-verdict : (s : List ℕ) (v : Verdict) (z : ℤ) → v ≡ verdict s → z ≡ v .margin → verdictAnswer s ≡ record { number = v .number; task = v .task; place = v .place; margin = z }
+unfolding verdictAnswer
+answers-verdict s v z is-verdict is-margin = rw is-margin (rw is-verdict refl)

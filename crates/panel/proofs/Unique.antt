@@ -2,6 +2,7 @@
 -- The contract is the one that the checker reads from the source.
 use mathlib.Core.Path.{_≡_}
 use mathlib.Core.List.{List}
+use Prim.Native.Nat.{ℕ}
 use contract.Lifetimes.{Lfts}
 use denote.Ref.{now}
 use denote.Triple.Clauses.{AtExit}
@@ -12,6 +13,10 @@ use Rattle.panel.proofs.tables.mt_read.Kinds as mt-read-kinds
 use Rattle.panel.proofs.tables.mt_read.Reads as mt-read-reads
 use Rattle.panel.proofs.tables.mt_write.Kinds as mt-write-kinds
 use Rattle.panel.proofs.tables.mt_write.Reads as mt-write-reads
+use Rattle.panel.proofs.verdicts.mt_verdict.Kinds as mt-verdict-kinds
+use Rattle.panel.proofs.verdicts.mt_verdict.Reads as mt-verdict-reads
+use Rattle.panel.proofs.verdicts.mt_report.Kinds as mt-report-kinds
+use Rattle.panel.proofs.verdicts.mt_report.Reads as mt-report-reads
 
 pub mt-read-one : OneResult 1 mt-read-kinds.ps mt-read-kinds.r mt-read-reads.Post
 mt-read-one κs args x y s t = by-definition
@@ -20,3 +25,10 @@ mt-read-one κs args x y s t = by-definition
 module _ (κs : Lfts 1) (args : Dens κs mt-write-kinds.ps) (s t : AtExit (endedOf 1 mt-write-kinds.ps mt-write-kinds.r) κs) where
   pub mt-write-one : (x y : resT mt-write-kinds.r κs .Denot) → mt-write-reads.Post κs args x s → mt-write-reads.Post κs args y t → (x ≡ y) × (now (s .1 .0) ≡ now (t .1 .0))
   mt-write-one x y p q = (by-definition (p .0) (q .0), by-definition (p .1) (q .1))
+
+pub mt-verdict-one : OneResult 1 mt-verdict-kinds.ps mt-verdict-kinds.r mt-verdict-reads.Post
+mt-verdict-one κs args x y s t = by-definition
+
+module _ (κs : Lfts 2) (args : Dens κs mt-report-kinds.ps) (s t : AtExit (endedOf 2 mt-report-kinds.ps mt-report-kinds.r) κs) where
+  pub mt-report-one : (x y : ℕ) → mt-report-reads.Post κs args x s → mt-report-reads.Post κs args y t → (x ≡ y) × (now (s .1 .0) ≡ now (t .1 .0))
+  mt-report-one x y p q = (by-definition (p .0) (q .0), by-definition (p .1) (q .1))

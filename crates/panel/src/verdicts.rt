@@ -1,0 +1,29 @@
+// The verdict on a file and its report from C.
+ghost use mathlib.Core.Path.{_≡_};
+ghost use lib.ListN.{length};
+ghost use Rattle.verdict.specs.Report.{report, reportInto};
+ghost use Rattle.panel.specs.Answers.{verdictAnswer};
+use crate::VerdictAnswer;
+
+// The verdict on a file.
+#[no_mangle]
+pub extern "C" fn mt_verdict(bytes: &[u8]) -> VerdictAnswer
+    ensures { λ r. ⌜ r ≡ verdictAnswer (now (bytes .entry)) ⌝ }
+{
+    let v = verdict::verdict_of(bytes);
+    VerdictAnswer {
+        number: v.number,
+        task: v.task,
+        place: v.place as u64,
+        margin: v.margin,
+    }
+}
+
+// The report on a file: its text at the front of the buffer if it fits there, and the rest as it was; its length.
+#[no_mangle]
+pub extern "C" fn mt_report(bytes: &[u8], out: &mut [u8]) -> u64
+    ensures { λ r. ⌜ (r ≡ length (report (now (bytes .entry)))) × (now (out .exit) ≡ reportInto (now (bytes .entry)) (now (out .entry))) ⌝ }
+{
+    let len = verdict::report_into(bytes, out);
+    len as u64
+}
