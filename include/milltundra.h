@@ -1,5 +1,6 @@
 /* Milltundra's C face: job tables of embroidery panels. Link with target/staticlib/libpanel.a, made by `rt staticlib panel`.
-   Every function answers every input. A pointer points to as many bytes as the count after it says, and is not null. */
+   Every function answers every input. A pointer points to as many bytes as the count after it says, and is not null; a buffer
+   overlaps nothing else that is handed over. */
 #ifndef MILLTUNDRA_H
 #define MILLTUNDRA_H
 

@@ -1,6 +1,7 @@
 //! Tables of the sizes that are measured.
 
 use second::random::{random_edges, ticks, Random};
+use second::table::MOST_TICKS;
 use second::{Table, Task};
 
 /// A size of table, with some tables of it.
@@ -39,5 +40,18 @@ fn table(r: &mut Random, n: usize, v: usize, density: usize) -> Table {
         };
         table.costs[16 * i..][..v].fill_with(|| ticks(r));
     }
+    table
+}
+
+/// The same graphs with ticks that the verdict accepts, so that every task has to be looked at: costs up to 900, deadlines from half
+/// of the most ticks on.
+pub fn accepted(r: &mut Random, table: &Table) -> Table {
+    let mut table = *table;
+    for task in &mut table.tasks[..usize::from(table.n)] {
+        task.deadline = r.range(MOST_TICKS / 2, MOST_TICKS);
+        task.period = r.range(task.deadline, MOST_TICKS);
+    }
+    table.costs = table.costs.map(|cost| cost.min(1 + cost % 900));
+    assert_eq!(second::verdict::judge(&table).number, 0);
     table
 }

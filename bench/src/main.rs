@@ -1,7 +1,7 @@
-//! Reads and writes a second, ours beside the second program's: the same inputs in one run, the sides in turn, so that other load
+//! Reads, writes, verdicts and reports a second, ours beside the second program's: the same inputs in one run, the sides in turn, so that other load
 //! falls on both. Buffers are not cleared in between. The ratio is ours over theirs: above 1, ours is the quicker.
 
-use bench::{sizes, Size};
+use bench::{accepted, sizes, Size};
 use compare::face;
 use second::random::{file, Random};
 use second::table::LARGEST;
@@ -25,6 +25,8 @@ fn main() {
     for size in sizes(&mut Random::new(seed), INPUTS) {
         reading(&size);
         writing(&size);
+        judging(&size);
+        reporting(&size);
     }
 }
 
@@ -37,7 +39,7 @@ fn reading(size: &Size) {
         black_box(second::read(black_box(&files[k])));
     };
     measure(
-        &format!("read  {}", size.name),
+        &format!("read    {}", size.name),
         Box::new(ours),
         Box::new(theirs),
     );
@@ -60,7 +62,46 @@ fn writing(size: &Size) {
         ));
     };
     measure(
-        &format!("write {}", size.name),
+        &format!("write   {}", size.name),
+        Box::new(ours),
+        Box::new(theirs),
+    );
+}
+
+/// Files that the verdict accepts.
+fn good_files(size: &Size) -> Vec<Vec<u8>> {
+    let r = &mut Random::new(2);
+    let tables = size.tables.iter().map(|table| accepted(r, table));
+    tables.map(|table| file(&table)).collect()
+}
+
+fn judging(size: &Size) {
+    let files = good_files(size);
+    let ours = |k: usize| {
+        black_box(face::verdict(black_box(&files[k])));
+    };
+    let theirs = |k: usize| {
+        black_box(second::verdict(black_box(&files[k])));
+    };
+    measure(
+        &format!("verdict {}", size.name),
+        Box::new(ours),
+        Box::new(theirs),
+    );
+}
+
+/// Theirs makes its text on the heap.
+fn reporting(size: &Size) {
+    let files = good_files(size);
+    let mut into = [0u8; face::REPORT_MOST];
+    let ours = |k: usize| {
+        black_box(face::report(black_box(&files[k]), black_box(&mut into)));
+    };
+    let theirs = |k: usize| {
+        black_box(second::report(black_box(&files[k])));
+    };
+    measure(
+        &format!("report  {}", size.name),
         Box::new(ours),
         Box::new(theirs),
     );

@@ -2,7 +2,7 @@
 //! with a pattern, and the lowest byte that changed is looked up; the most over many inputs, accepted and refused. The return
 //! address counts; what its caller puts down for it (a table by value) is said beside it.
 
-use compare::{face, reading, writing};
+use compare::{face, judging, reading, writing};
 use second::random::{file, largest_table, Random};
 use second::table::LARGEST;
 use std::mem::size_of;
@@ -84,16 +84,43 @@ fn write(r: &mut Random, k: u64) -> usize {
     )
 }
 
+/// The answer goes to memory that the caller names first, as every struct above sixteen bytes.
+fn verdict(r: &mut Random, k: u64) -> usize {
+    let bytes = judged(r, k);
+    let mut answer = std::mem::MaybeUninit::<face::VerdictAnswer>::uninit();
+    let to = answer.as_mut_ptr() as usize;
+    let words = [to, bytes.as_ptr() as usize, bytes.len(), 0, 0, 0];
+    taken(face::entry::mt_verdict as *const (), words, ())
+}
+
+fn report(r: &mut Random, k: u64) -> usize {
+    let bytes = judged(r, k);
+    let mut buffer = [0u8; face::REPORT_MOST];
+    let to = buffer.as_mut_ptr() as usize;
+    let from = bytes.as_ptr() as usize;
+    let words = [from, bytes.len(), to, face::REPORT_MOST, 0, 0];
+    taken(face::entry::mt_report as *const (), words, ())
+}
+
+fn judged(r: &mut Random, k: u64) -> Vec<u8> {
+    match k {
+        0 => file(&largest_table(r)),
+        _ => judging::input(r),
+    }
+}
+
 fn most(one: fn(&mut Random, u64) -> usize) -> usize {
     let each = (0..INPUTS).map(|k| one(&mut Random::new(k), k));
     each.max().unwrap_or(0)
 }
 
 fn main() {
-    println!("mt_read   {:>6} bytes", most(read));
+    println!("mt_read    {:>6} bytes", most(read));
     println!(
-        "mt_write  {:>6} bytes, and {} for the table, which its caller puts there",
+        "mt_write   {:>6} bytes, and {} for the table, which its caller puts there",
         most(write),
         size_of::<face::Table>()
     );
+    println!("mt_verdict {:>6} bytes", most(verdict));
+    println!("mt_report  {:>6} bytes", most(report));
 }
