@@ -1,0 +1,3 @@
+-- Document 02, M-100: a row and its refusals; the judge.
+pub mod Rows
+pub mod Judging
