@@ -1,0 +1,2 @@
+-- Judging row by row, for a loop.
+pub mod Going
