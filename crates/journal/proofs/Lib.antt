@@ -1,2 +1,8 @@
 -- Judging row by row, for a loop.
 pub mod Going
+-- Lists of vertices.
+pub mod Keys
+-- The tests of a row.
+pub mod Passing
+-- Its bytes.
+pub mod Written
