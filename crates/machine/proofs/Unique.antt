@@ -16,6 +16,8 @@ use Rattle.graph.proofs.Unique.{by-definition}
 use Rattle.table.proofs.Unique.{OneResult}
 use Rattle.machine.proofs.opening.open.Kinds as open-kinds
 use Rattle.machine.proofs.opening.open.Reads as open-reads
+use Rattle.machine.proofs.opening.zeros.Kinds as zeros-kinds
+use Rattle.machine.proofs.opening.zeros.Reads as zeros-reads
 use Rattle.machine.proofs.State.tick.Kinds as tick-kinds
 use Rattle.machine.proofs.State.tick.Reads as tick-reads
 use Rattle.machine.proofs.steps.release.Kinds as release-kinds
@@ -35,6 +37,9 @@ use Rattle.machine.specs.declared.Answer.{Answer}
 
 pub open-one : OneResult 1 open-kinds.ps open-kinds.r open-reads.Post
 open-one κs args x y s t = by-definition
+
+pub zeros-one : OneResult 0 zeros-kinds.ps zeros-kinds.r zeros-reads.Post
+zeros-one κs args x y s t = by-definition
 
 pub tick-one : OneResult 1 tick-kinds.ps tick-kinds.r tick-reads.Post
 tick-one κs args x y s t = by-definition
