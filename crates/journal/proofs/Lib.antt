@@ -6,3 +6,10 @@ pub mod Keys
 pub mod Passing
 -- Its bytes.
 pub mod Written
+-- The tests of a row in code.
+pub mod RowTests
+pub mod SetTests
+pub mod RowFaults
+pub mod Entries
+-- Each public contract allows one result.
+pub mod Unique
