@@ -2,7 +2,7 @@
 use mathlib.Core.Path.{_≡_, refl, sym, ap, _∙_}
 use mathlib.Core.Bool.{Bool, true, false, _&&_, _||_, not}
 use mathlib.Core.List.{List}
-use Prim.Native.Nat.{ℕ, _+_, _*_, _≤_, _<_, min}
+use Prim.Native.Nat.{ℕ, _≤_, _<_, min}
 use native.Mathlib.Omega.{arith}
 use native.Mathlib.Decide.{ℕ-discrete}
 use lib.ListN.{length}
@@ -16,7 +16,7 @@ use Rattle.machine.specs.States.{wait}
 use Rattle.machine.specs.declared.Ticked.{Ticked}
 use Rattle.machine.specs.Steps.{released, availables, worked}
 use Rattle.machine.specs.Ticking.{advanceTo, advance}
-use Rattle.machine.proofs.Lowest.{None, lowestOr-is}
+use Rattle.machine.proofs.Lowest.{lowestOr-is}
 use Rattle.machine.proofs.Searching.{found, found-none}
 use Rattle.journal.specs.declared.Progress.{Progress}
 use Rattle.journal.specs.Rows.{rowSet, rowCount, rowEnd, listed, isStopped, cutShort, wrongMark, ascending, badList, notAvailable, tooFew, passesOver, choiceFault, setFault, fault}

@@ -13,9 +13,9 @@ use lib.Seq.{getD-set-same, getD-set-other, drop-cons, drop-length, take-suc, ta
 use lib.Dec.{ltb, leb, eqb}
 use lib.Count.{ones, onesIn, ones-cat, trailingZeros}
 use borrow.Author.Tests.{lt-ltb, le-ltb, ltb-true, eq-eqb, ne-eqb, eqb-true, eqb-false, leb-true, leb-false, not-true, not-false}
-use Rattle.graph.specs.Words.{pick, bit, flag, sum, all, row, largest, thoseBelow, isIn, anyOf, setOf}
+use Rattle.graph.specs.Words.{pick, bit, flag, sum, all, row, largest, thoseBelow, isIn, setOf}
 use Rattle.graph.proofs.Facts.{clash, both-true, and-true, all-at, all-not, length-row, row-at, sum-same, count-below, below-pass, below-all, largest-most, largest-some, first-in, other-in, tail-in, off-when}
-use Rattle.graph.proofs.Lists.{any-some, some-any}
+use Rattle.graph.proofs.Lists.{any-some}
 use Rattle.graph.proofs.Bits.{bit-zero, lowest, lowest-lt}
 use Rattle.table.specs.declared.Table.{Table}
 use Rattle.machine.specs.declared.State.{State}
@@ -23,7 +23,7 @@ use Rattle.machine.specs.States.{left}
 use Rattle.machine.specs.Steps.{available, availables, availableSets}
 use Rattle.machine.proofs.Behind.{all-same}
 use Rattle.machine.proofs.Searching.{set-small, bit-set}
-use Rattle.journal.specs.Rows.{rowCount, rowTask, rowVertex, listed, pairAvailable, notAvailable, tooFew, passesOver}
+use Rattle.journal.specs.Rows.{rowCount, rowTask, rowVertex, listed, pairAvailable, notAvailable, passesOver}
 use Rattle.journal.specs.Listing.{inSet, AreVertices, Without}
 use Rattle.journal.proofs.Keys.{in-row}
 use Rattle.journal.proofs.Passing.{passes-over}

@@ -1,4 +1,4 @@
-use mathlib.Core.Path.{_≡_, refl, sym, _∙_}
+use mathlib.Core.Path.{_≡_, refl}
 use mathlib.Core.Bool.{true}
 use Prim.Native.Nat.{_+_, _-_, _≤_}
 use native.Mathlib.Omega.{arith}
@@ -7,7 +7,7 @@ use borrow.Author.Needs.{needs}
 use borrow.Author.Tests.{lt-ltb, le-ltb}
 use Rattle.graph.specs.Words.{all}
 use Rattle.machine.proofs.Behind.{all-more, all-off, all-done}
-use Rattle.journal.specs.Rows.{rowCount, rowEnd, rowPair, ascending}
+use Rattle.journal.specs.Rows.{rowEnd, rowPair, ascending}
 use Rattle.journal.proofs.fields.ascends.Statement.{statement}
 use Rattle.journal.proofs.fields.ascends.Tie as tie
 

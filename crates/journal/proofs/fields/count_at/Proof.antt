@@ -1,4 +1,3 @@
-use native.Mathlib.Omega.{arith}
 use borrow.Author.Needs.{needs}
 use Rattle.journal.specs.Rows.{rowCount}
 use Rattle.journal.proofs.fields.count_at.Statement.{statement}

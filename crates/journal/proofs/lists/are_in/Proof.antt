@@ -1,12 +1,12 @@
-use mathlib.Core.Path.{_≡_, refl, sym, ap, ap₂, _∙_}
+use mathlib.Core.Path.{_≡_, refl, sym, ap₂, _∙_}
 use mathlib.Core.Bool.{true}
-use Prim.Native.Nat.{ℕ, _-_, _≤_}
+use Prim.Native.Nat.{_-_, _≤_}
 use native.Mathlib.Omega.{arith}
 use borrow.Author.Needs.{needs}
 use borrow.Author.Tests.{not-true, not-false}
 use Rattle.graph.specs.Words.{all}
 use Rattle.machine.proofs.Behind.{all-more, all-off, all-done}
-use Rattle.journal.specs.Rows.{rowCount, rowTask, rowVertex, rowEnd}
+use Rattle.journal.specs.Rows.{rowTask, rowVertex, rowEnd}
 use Rattle.journal.specs.Listing.{inSet}
 use Rattle.journal.proofs.lists.are_in.Statement.{statement}
 use Rattle.journal.proofs.lists.are_in.Tie as tie

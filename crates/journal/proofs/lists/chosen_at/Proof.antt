@@ -3,7 +3,7 @@ use Prim.Native.Nat.{ℕ, _+_, _*_, _-_, _≤_}
 use native.Mathlib.Omega.{arith}
 use borrow.Author.Needs.{needs}
 use lib.ListN.{length, take, length-set}
-use Rattle.journal.specs.Rows.{rowCount, rowTask, rowVertex, rowEnd, listed}
+use Rattle.journal.specs.Rows.{rowEnd, listed}
 use Rattle.journal.specs.Listing.{AreVertices}
 use Rattle.journal.proofs.SetTests.{listed-length, listed-at, one-kept, all-kept}
 use Rattle.journal.proofs.lists.chosen_at.Statement.{statement}

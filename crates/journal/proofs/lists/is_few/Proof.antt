@@ -1,5 +1,4 @@
 use native.Mathlib.Omega.{arith}
-use borrow.Author.Needs.{needs}
 use Rattle.journal.proofs.RowTests.{few-not, few-by}
 use Rattle.journal.proofs.lists.is_few.Statement.{statement}
 use Rattle.journal.proofs.lists.is_few.Tie as tie

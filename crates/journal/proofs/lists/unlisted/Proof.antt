@@ -1,8 +1,8 @@
-use mathlib.Core.Path.{_≡_, sym, ap₂, _∙_}
+use mathlib.Core.Path.{sym, ap₂, _∙_}
 use Prim.Native.Nat.{ℕ, _+_, _*_, _-_, _≤_}
 use native.Mathlib.Omega.{arith}
 use borrow.Author.Needs.{needs}
-use Rattle.journal.specs.Rows.{rowCount, rowTask, rowVertex, rowEnd, listed}
+use Rattle.journal.specs.Rows.{rowEnd, listed}
 use Rattle.journal.specs.Listing.{AreVertices}
 use Rattle.journal.proofs.SetTests.{TakenTo, none-taken, one-taken, all-taken, listed-length, listed-at}
 use Rattle.journal.proofs.lists.unlisted.Statement.{statement}

@@ -1,4 +1,4 @@
-use mathlib.Core.Path.{sym, ap, _∙_}
+use mathlib.Core.Path.{sym, ap}
 use borrow.Author.Needs.{needs}
 use Rattle.journal.specs.Rows.{isStopped}
 use Rattle.journal.proofs.walk.is_stopped.Statement.{statement}

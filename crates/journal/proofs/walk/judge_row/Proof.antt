@@ -6,7 +6,7 @@ use borrow.Author.Needs.{needs}
 use Rattle.machine.specs.declared.State.{State}
 use Rattle.machine.specs.declared.Ticked.{Ticked}
 use Rattle.machine.specs.Steps.{released}
-use Rattle.journal.specs.Rows.{rowSet, rowCount, rowEnd, listed, choiceFault, fault}
+use Rattle.journal.specs.Rows.{rowSet, rowEnd, listed, choiceFault, fault}
 use Rattle.journal.specs.Listing.{AreVertices}
 use Rattle.journal.proofs.Going.{legal-row, refused-row}
 use Rattle.journal.proofs.SetTests.{each-vertex}

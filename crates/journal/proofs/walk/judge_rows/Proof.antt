@@ -1,9 +1,8 @@
 use mathlib.Core.Path.{_≡_, refl, sym, ap, subst, _∙_}
 use Prim.Native.Nat.{_-_, _≤_, _<_}
 use native.Mathlib.Omega.{arith}
-use borrow.Author.Needs.{needs}
 use Rattle.journal.specs.declared.Progress.{Progress}
-use Rattle.journal.specs.Judging.{judgeRow, judgeRows}
+use Rattle.journal.specs.Judging.{judgeRows}
 use Rattle.journal.specs.Listing.{from}
 use Rattle.journal.proofs.Going.{over-end, over-refused, not-over, rows-over, rows-step}
 use Rattle.journal.proofs.RowFaults.{row-further, row-counted}

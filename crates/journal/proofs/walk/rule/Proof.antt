@@ -1,6 +1,5 @@
 use mathlib.Core.Path.{refl, ap}
 use mathlib.Core.Bool.{Bool}
-use native.Mathlib.Omega.{arith}
 use borrow.Author.Needs.{needs}
 use borrow.Author.Tests.{eq-eqb, ne-eqb}
 use Rattle.journal.specs.Judging.{ruling}

@@ -1,7 +1,6 @@
 use mathlib.Core.Path.{ap₂}
 use Prim.Native.Nat.{ℕ}
 use mathlib.Core.Bool.{false}
-use native.Mathlib.Omega.{arith}
 use borrow.Author.Needs.{needs}
 use Rattle.journal.specs.Judging.{unread}
 use Rattle.journal.proofs.walk.unreadable.Statement.{statement}
