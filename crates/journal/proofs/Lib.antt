@@ -6,3 +6,6 @@ pub mod Keys
 pub mod Passing
 -- Its bytes.
 pub mod Written
+-- A legal tick.
+pub mod Ticks
+pub mod Lawful
