@@ -9,3 +9,5 @@ pub mod Written
 -- A legal tick.
 pub mod Ticks
 pub mod Lawful
+-- Whole runs.
+pub mod Judged
