@@ -11,3 +11,4 @@ pub mod Ticks
 pub mod Lawful
 -- Whole runs.
 pub mod Judged
+pub mod Clocks
