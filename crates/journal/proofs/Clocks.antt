@@ -1,39 +1,38 @@
 -- The clock does not matter: from idle machines at two clocks the same runs are legal, with the same answers.
 use mathlib.Core.Path.{_≡_, refl, sym, ap, subst, _∙_}
-use mathlib.Core.Logic.{_⊎_, inl, inr, ⊎-elim}
+use mathlib.Core.Logic.{inl, inr, ⊎-elim}
 use mathlib.Core.Bool.{Bool, true, false, _&&_, _||_, not}
 use mathlib.Core.List.{List, [], _∷_}
 use Prim.Native.Nat.{ℕ, _+_, _*_, _-_, _/_, _%_, _^_, _≤_, _<_, min}
 use native.Mathlib.Omega.{arith}
 use native.Mathlib.Decide.{decLt}
 use lib.ListN.{length, getD}
-use lib.Dec.{ltb, leb, eqb}
-use borrow.Author.Tests.{leb-false, ltb-false}
+use lib.Dec.{ltb, eqb}
 use Rattle.graph.specs.Words.{pick, bit, all, row, thoseBelow, isIn, firstOr, lowestOr}
 use Rattle.graph.proofs.Facts.{clash, both-true, below-pass}
 use Rattle.graph.proofs.Members.{below-same}
 use Rattle.table.specs.declared.Table.{Table}
 use Rattle.table.specs.declared.Outcome.the-variants.{Read}
-use Rattle.table.specs.Memory.{vertices, edgeIn, D, T}
+use Rattle.table.specs.Memory.{vertices, edgeIn, T}
 use Rattle.table.specs.Reading.{read}
 use Rattle.table.specs.Good.{GoodTable}
 use Rattle.table.proofs.Sound.{read-good}
 use Rattle.machine.specs.declared.Phase.{Phase}
-use Rattle.machine.specs.declared.Phase.the-variants.{Running, Stopped}
+use Rattle.machine.specs.declared.Phase.the-variants.{Stopped}
 use Rattle.machine.specs.declared.State.{State}
 use Rattle.machine.specs.declared.Ticked.{Ticked}
-use Rattle.machine.specs.States.{live, wait, deadline, remaining, wrap, left, zeros}
-use Rattle.machine.specs.Steps.{released, clear, available, availables, worked, nothingLeft, finishes, ended, finished, missed, Legal}
+use Rattle.machine.specs.States.{live, wait, deadline, remaining, left, zeros}
+use Rattle.machine.specs.Steps.{released, clear, available, availables, worked, nothingLeft, finishes, ended, missed, Legal}
 use Rattle.machine.specs.Fitting.{fits}
 use Rattle.machine.specs.Ticking.{ticked, judged, advanceTo, advance}
 use Rattle.machine.proofs.Index.{not-missed, in-time, wrap-small, released-live, released-wait, worked-live, ended-live, zeros-live, zeros-wait}
-use Rattle.machine.proofs.Standing.{Standing, Going, available-is}
-use Rattle.machine.proofs.Moving.{mid, kept-live, kept-left, new-live, new-left, mid-live, unnamed, next, next-wait, next-live, next-clock, next-deadline, next-left}
-use Rattle.machine.proofs.Cases.{beyond, tooSoon, Admitted}
+use Rattle.machine.proofs.Standing.{Standing, available-is}
+use Rattle.machine.proofs.Moving.{mid, kept-live, kept-left, new-left, mid-live, unnamed, next, next-wait, next-live, next-clock, next-deadline, next-left}
+use Rattle.machine.proofs.Cases.{tooSoon, Admitted}
 use Rattle.machine.proofs.Fitted.{InRange, fits-stands}
-use Rattle.machine.proofs.Keeping.{bit-below, legal-only}
+use Rattle.machine.proofs.Keeping.{legal-only}
 use Rattle.journal.specs.Runs.{Tick, tickWith, answerOf, LegalTick, LegalRun, lastAnswer}
-use Rattle.journal.proofs.Ticks.{admitted-tick, legal-admitted, legal-tick, keeps-fitting}
+use Rattle.journal.proofs.Ticks.{named-tasks, named-free, admitted-tick, legal-admitted, keeps-fitting}
 
 -- ALIKE: all but the clock and the deadlines is the same, and live jobs have the same ticks left
 pub record Alike (a b : State) : Type 0 where
@@ -263,10 +262,6 @@ module _ (file : List ℕ) (well : read file .outcome ≡ Read) where
   abbrev Fit : State → Type 0
   Fit st = (fits t st ≡ true) × InRange st
 
-  and-false : (a b : Bool) → a && b ≡ false → a ≡ true → b ≡ false
-  and-false true b h e = h
-  and-false false b h e = absurd (clash e refl)
-
   module _ (a b : State) (fa : Fit a) (fb : Fit b) (same : Alike a b) (x : Tick) (l : LegalTick file a x) where
     ok-a : Admitted (λ u s. x .chosen) t a (x .named)
     ok-a = legal-admitted file well a x l
@@ -284,12 +279,10 @@ module _ (file : List ℕ) (well : read file .outcome ≡ Read) where
         sixteen i h = let g = read-good file well .n-high in omega arith
 
     tasks : (i : ℕ) → bit (x .named) i ≡ true → i < t .n
-    unfolding beyond
-    tasks i e = leb-false (t .n) i (and-false (bit (x .named) i) _ (ok-a .tasks i (bit-below (x .named) i (l .bits) e)) e)
+    tasks = named-tasks (λ u s. x .chosen) t a (x .named) (l .bits) ok-a
 
     free : (st : State) → Admitted (λ u s. x .chosen) t st (x .named) → (i : ℕ) → bit (x .named) i ≡ true → wait st i ≡ 0
-    unfolding tooSoon
-    free st ok i e = let z = ltb-false 0 (wait st i) (and-false (bit (x .named) i) _ (ok .free i (tasks i e)) e) in omega arith
+    free st ok = named-free (λ u s. x .chosen) t st (x .named) (l .bits) ok
 
     stands : (st : State) → Fit st → Admitted (λ u s. x .chosen) t st (x .named) → Standing t st
     stands st f ok = fits-stands t (read-good file well) st (f .0) (ok .running) (f .1)

@@ -2,19 +2,19 @@
 -- rest. These are the laws of a loop over the rows.
 use mathlib.Core.Path.{_≡_, refl, sym, ap, _∙_}
 use mathlib.Core.Logic.{_⊎_, inl, inr}
-use mathlib.Core.Bool.{Bool, true, false, _||_, not}
+use mathlib.Core.Bool.{Bool, true, false, _||_}
 use mathlib.Core.List.{List}
 use Prim.Native.Nat.{ℕ, zero, suc, _+_, _-_, _≤_, _<_}
 use native.Mathlib.Omega.{arith}
 use native.Mathlib.Decide.{ℕ-discrete, decLe}
-use lib.Dec.{leb, eqb}
-use borrow.Author.Tests.{eq-eqb, ne-eqb, eqb-true, leb-true, leb-false, le-leb, lt-leb}
+use lib.Dec.{leb}
+use borrow.Author.Tests.{eq-eqb, ne-eqb, le-leb, lt-leb}
 use Rattle.graph.proofs.Facts.{clash}
 use Rattle.table.specs.declared.Table.{Table}
 use Rattle.machine.specs.Ticking.{advance}
 use Rattle.journal.specs.declared.Progress.{Progress}
 use Rattle.journal.specs.Rows.{rowSet, rowEnd, listed, fault}
-use Rattle.journal.specs.Judging.{ruled, judgeRow, isOver, unless, rowsFor, judgeRows}
+use Rattle.journal.specs.Judging.{ruled, judgeRow, isOver, rowsFor, judgeRows}
 
 -- ---- a row
 module _ (t : Table) (s : List ℕ) (p : Progress) where

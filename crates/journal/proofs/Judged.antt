@@ -1,14 +1,13 @@
 -- From one state: the writing of a legal run is accepted; and what is accepted is the writing of one.
 use mathlib.Core.Path.{_≡_, refl, sym, ap, subst, _∙_}
-use mathlib.Core.Logic.{_⊎_, inl, inr, ⊎-elim}
+use mathlib.Core.Logic.{_⊎_, inl, inr}
 use mathlib.Core.Bool.{Bool, true, false}
 use mathlib.Core.List.{List, [], _∷_, _++_}
-use Prim.Native.Nat.{ℕ, zero, suc, _+_, _*_, _^_, _≤_, _<_}
+use Prim.Native.Nat.{ℕ, zero, suc, _+_, _^_, _≤_, _<_}
 use native.Mathlib.Omega.{arith}
 use native.Mathlib.Decide.{ℕ-discrete, decLt}
 use lib.ListN.{length, getD, drop, length-drop, drop-of-length-le}
 use lib.Dec.{eqb}
-use Rattle.graph.specs.Words.{isIn}
 use Rattle.graph.proofs.Facts.{clash}
 use Rattle.table.specs.declared.Table.{Table}
 use Rattle.table.specs.declared.Outcome.the-variants.{Read}
@@ -17,18 +16,17 @@ use Rattle.machine.specs.declared.Phase.{Phase}
 use Rattle.machine.specs.declared.Phase.the-variants.{Running, Stopped}
 use Rattle.machine.specs.declared.State.{State}
 use Rattle.machine.specs.declared.Ticked.{Ticked}
-use Rattle.machine.specs.Steps.{released, Legal}
+use Rattle.machine.specs.Steps.{released}
 use Rattle.machine.specs.Fitting.{fits}
 use Rattle.machine.specs.Ticking.{advance}
 use Rattle.machine.proofs.Cases.{beyond, tooSoon, Admitted}
 use Rattle.machine.proofs.Fitted.{InRange}
 use Rattle.journal.specs.declared.Progress.{Progress}
 use Rattle.journal.specs.declared.Ruling.{Ruling}
-use Rattle.journal.specs.Rows.{rowSet, rowCount, rowEnd, listed, isStopped, fault}
-use Rattle.journal.specs.Judging.{judgeRow, isOver, judgeRows, ruling}
+use Rattle.journal.specs.Rows.{rowSet, rowEnd, listed, isStopped, fault}
+use Rattle.journal.specs.Judging.{judgeRows, ruling}
 use Rattle.journal.specs.Runs.{Tick, tickWith, answerOf, LegalTick, LegalRun, lastAnswer, keysOf, rowBytes, writing}
 use Rattle.journal.proofs.Going.{legal-row, refused-row, over-end, over-refused, not-over, rows-over, rows-step}
-use Rattle.journal.proofs.Keys.{keys-same}
 use Rattle.journal.proofs.Passing.{Passes, passes, in-whole, the-mark, each, listed-keys, listed-legal}
 use Rattle.journal.proofs.Written.{row-bytes, set-is, listed-is, whole-row, after-row}
 use Rattle.journal.proofs.Ticks.{Answers, fine, miss, advance-answers, same-advance, admitted-tick, legal-admitted, legal-tick, keeps-fitting}

@@ -1,18 +1,15 @@
 -- The row that is written of a legal tick passes every test.
-use mathlib.Core.Path.{_≡_, refl, sym, ap, subst, _∙_}
-use mathlib.Core.Bool.{Bool, true, false, _&&_, _||_, not}
+use mathlib.Core.Path.{_≡_, refl, sym, ap, _∙_}
+use mathlib.Core.Bool.{true, false, _&&_, not}
 use mathlib.Core.List.{List, [], _∷_, _++_}
 use Prim.Native.Nat.{ℕ, zero, suc, _+_, _*_, _-_, _/_, _%_, _≤_, _<_, min}
 use native.Mathlib.Omega.{arith}
-use native.Mathlib.Numerals.{add-one}
 use lib.ListN.{length, getD, drop}
-use lib.Dec.{ltb, leb, eqb}
+use lib.Dec.{ltb, leb}
 use borrow.Author.Tests.{lt-ltb, le-ltb, eq-eqb}
 use Rattle.graph.specs.Words.{bit, isIn}
-use Rattle.graph.proofs.Facts.{clash, and-true, all-of, below-pass, first-in, tail-in}
+use Rattle.graph.proofs.Facts.{and-true, all-of, below-pass, first-in, tail-in}
 use Rattle.table.specs.declared.Table.{Table}
-use Rattle.table.proofs.Ascending.{Asc}
-use Rattle.machine.specs.declared.Phase.{Phase}
 use Rattle.machine.specs.declared.State.{State}
 use Rattle.machine.specs.States.{wait}
 use Rattle.machine.specs.Steps.{released, available, availables, Legal}

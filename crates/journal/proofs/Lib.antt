@@ -12,3 +12,7 @@ pub mod Lawful
 -- Whole runs.
 pub mod Judged
 pub mod Clocks
+pub mod Own
+pub mod Once
+-- THE THEOREMS.
+pub mod Accepts

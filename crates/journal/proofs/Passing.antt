@@ -3,14 +3,13 @@ use mathlib.Core.Path.{_≡_, refl, sym, ap, subst, _∙_}
 use mathlib.Core.Logic.{⊎-elim}
 use mathlib.Core.Bool.{Bool, true, false, _&&_, _||_, not}
 use mathlib.Core.List.{List}
-use Prim.Native.Nat.{ℕ, zero, suc, _+_, _*_, _-_, _/_, _≤_, _<_, min}
+use Prim.Native.Nat.{ℕ, _+_, _*_, _-_, _/_, _≤_, _<_, min}
 use native.Mathlib.Omega.{arith}
-use native.Mathlib.Decide.{decLt}
 use lib.ListN.{length, getD}
 use lib.Dec.{ltb, leb, eqb}
-use borrow.Author.Tests.{ltb-true, ltb-false, lt-ltb, le-ltb, not-false, not-true, eqb-true}
-use Rattle.graph.specs.Words.{pick, bit, row, isIn, anyOf, lowestOr, Distinct}
-use Rattle.graph.proofs.Facts.{clash, both-true, and-true, all-at, all-of, length-row, row-at, lowestOr-cases, lowestOr-none, below-pass, below-all, off-when}
+use borrow.Author.Tests.{ltb-true, ltb-false, not-false, not-true, eqb-true}
+use Rattle.graph.specs.Words.{pick, bit, row, isIn, lowestOr, Distinct}
+use Rattle.graph.proofs.Facts.{clash, both-true, and-true, all-at, length-row, lowestOr-cases, lowestOr-none, below-all, off-when}
 use Rattle.graph.proofs.Lists.{any-some, some-any}
 use Rattle.table.specs.declared.Table.{Table}
 use Rattle.table.proofs.Ascending.{Asc}

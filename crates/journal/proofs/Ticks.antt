@@ -1,30 +1,30 @@
 -- A legal tick by the machine's steps: the judge's state is the one that the tick hands back, and it is stopped exactly after a miss.
 use mathlib.Core.Path.{_≡_, refl, sym, ap, subst, _∙_}
 use mathlib.Core.Logic.{_⊎_, inl, inr, ⊎-elim}
-use mathlib.Core.Bool.{Bool, true, false}
+use mathlib.Core.Bool.{Bool, true, false, _&&_}
 use mathlib.Core.List.{List, [], _∷_}
 use Prim.Native.Nat.{ℕ, _-_, _^_, _<_}
 use native.Mathlib.Omega.{arith}
 use lib.ListN.{getD}
-use lib.Dec.{eqb}
+use borrow.Author.Tests.{leb-false, ltb-false}
 use Rattle.graph.specs.Words.{pick, bit, row, thoseBelow, isIn, firstOr, lowestOr}
 use Rattle.graph.proofs.Facts.{clash, length-row, row-at}
 use Rattle.table.specs.declared.Table.{Table}
 use Rattle.table.specs.declared.Outcome.the-variants.{Read}
 use Rattle.table.specs.Reading.{read}
-use Rattle.machine.specs.declared.Phase.{Phase}
-use Rattle.machine.specs.declared.Phase.the-variants.{Running, Stopped}
+use Rattle.machine.specs.declared.Phase.the-variants.{Stopped}
 use Rattle.machine.specs.declared.State.{State}
 use Rattle.machine.specs.declared.Ticked.{Ticked}
-use Rattle.machine.specs.States.{zeros}
+use Rattle.machine.specs.States.{wait, zeros}
 use Rattle.machine.specs.Steps.{released, worked, ended, finished, missed, Legal}
 use Rattle.machine.specs.Fitting.{fits}
-use Rattle.machine.specs.Ticking.{ticked, judged, advanceTo, advance, refuse, tickOn, tickBy}
+use Rattle.machine.specs.Ticking.{ticked, judged, advanceTo, advance, refuse, tickOn}
 use Rattle.machine.proofs.Index.{released-phase, worked-phase, ended-phase}
 use Rattle.machine.proofs.Lowest.{lowest-cases}
-use Rattle.machine.proofs.Cases.{Admitted, Case, unfit, halted, no-task, early, misses, goes-on, cases, admitted-advances}
+use Rattle.machine.proofs.Cases.{beyond, tooSoon, Admitted, Case, unfit, halted, no-task, early, misses, goes-on, cases, admitted-advances}
 use Rattle.machine.proofs.Fitted.{InRange}
 use Rattle.machine.proofs.Files.{tick-fits}
+use Rattle.machine.proofs.Keeping.{bit-below}
 use Rattle.machine.proofs.Filling.{row-same}
 use Rattle.machine.proofs.Refusing.{on-table}
 use Rattle.journal.specs.Rows.{isStopped}
@@ -101,6 +101,20 @@ module _ (choose : Table → State → List ℕ) (t : Table) (st : State) (named
       go x (early e p n i l q) h = never x 33 i (λ z. omega arith) (λ z. omega arith) q h
       go x (misses a i l q) h = a
       go x (goes-on a n q) h = a
+
+and-false : (a b : Bool) → a && b ≡ false → a ≡ true → b ≡ false
+and-false true b h e = h
+and-false false b h e = absurd (clash e refl)
+
+-- what was admitted names tasks of the table, and none that has to wait
+module _ (choose : Table → State → List ℕ) (t : Table) (st : State) (named : ℕ) (bits : named < 2 ^ 16) (ok : Admitted choose t st named) where
+  pub named-tasks : (i : ℕ) → bit named i ≡ true → i < t .n
+  unfolding beyond
+  named-tasks i e = leb-false (t .n) i (and-false (bit named i) _ (ok .tasks i (bit-below named i bits e)) e)
+
+  pub named-free : (i : ℕ) → bit named i ≡ true → wait st i ≡ 0
+  unfolding tooSoon
+  named-free i e = let z = ltb-false 0 (wait st i) (and-false (bit named i) _ (ok .free i (named-tasks i e)) e) in omega arith
 
 -- ---- on a file that is read
 module _ (file : List ℕ) (well : read file .outcome ≡ Read) (st : State) (x : Tick) where

@@ -1,7 +1,6 @@
 -- WHAT THE JUDGE ACCEPTS: document 02, M-100. "It must accept every legal run so written and nothing else." Proved in
 -- proofs/Accepts.antt.
 use mathlib.Core.Path.{_≡_}
-use mathlib.Core.Bool.{true}
 use mathlib.Core.List.{List}
 use Prim.Native.Nat.{ℕ, _^_, _<_}
 use lib.ListN.{length, getD}
