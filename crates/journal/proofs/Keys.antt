@@ -4,11 +4,10 @@ use mathlib.Core.Bool.{Bool, true, false}
 use mathlib.Core.List.{List, [], _∷_}
 use Prim.Native.Nat.{ℕ, zero, suc, _+_, _≤_, _<_}
 use native.Mathlib.Omega.{arith}
-use native.Mathlib.Nat.{add-zero}
-use native.Mathlib.Decide.{ℕ-discrete, decLt}
+use native.Mathlib.Decide.{ℕ-discrete}
 use lib.ListN.{length, getD}
 use Rattle.graph.specs.Words.{flag, sum, rowFrom, row, thoseBelow, isIn, Distinct}
-use Rattle.graph.proofs.Facts.{clash, off-when, first-in, other-in, tail-in, sum-le, sum-none, sum-set, sum-same, count-below, below-pass, below-all, below-distinct}
+use Rattle.graph.proofs.Facts.{clash, off-when, first-in, other-in, tail-in, sum-le, sum-none, sum-set, count-below, below-pass, below-all, below-distinct}
 use Rattle.graph.proofs.Members.{below-same}
 use Rattle.table.proofs.Ascending.{Asc, picked-out, keys-asc}
 use Rattle.journal.specs.Runs.{keysOf}

@@ -5,3 +5,7 @@ pub mod Listing
 -- Runs and their writing; what the judge accepts, stated.
 pub mod Runs
 pub mod Accepting
+-- Judging in pieces, stated.
+pub mod Pieces
+-- Examples, stated.
+pub mod Examples

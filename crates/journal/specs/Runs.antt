@@ -1,13 +1,12 @@
 -- A legal run of the machine, and its writing as a journal: document 01, "The machine", and document 02, M-100.
 use mathlib.Core.Path.{_≡_}
 use mathlib.Core.Logic.{_⊎_}
-use mathlib.Core.Bool.{Bool, true, false, not}
+use mathlib.Core.Bool.{Bool}
 use mathlib.Core.List.{List, [], _∷_, _++_}
 use Prim.Native.Nat.{ℕ, _+_, _*_, _/_, _%_, _^_, _<_}
 use lib.ListN.{length}
 use lib.Dec.{eqb}
 use Rattle.graph.specs.Words.{pick, thoseBelow, isIn}
-use Rattle.table.specs.declared.Table.{Table}
 use Rattle.table.specs.Reading.{read}
 use Rattle.machine.specs.declared.State.{State}
 use Rattle.machine.specs.declared.Pair.{Pair}
