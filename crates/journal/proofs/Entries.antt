@@ -17,7 +17,7 @@ use Rattle.machine.specs.States.{zeros}
 use Rattle.journal.specs.declared.Ruling.{Ruling}
 use Rattle.journal.specs.declared.Progress.{Progress}
 use Rattle.journal.specs.Judging.{judgeRows, start, ruling, judgeOn, unread, judgeRead, judge}
-use Rattle.journal.specs.Listing.{from, judgePart}
+use Rattle.journal.specs.Listing.{judgePiece}
 
 module _ (file : List ℕ) (l : Loaded) (h : l ≡ read file) where
   -- a table that was read is good
@@ -29,21 +29,21 @@ module _ (file : List ℕ) (l : Loaded) (h : l ≡ read file) where
     unfolding judge judgeRead
     judge-stop r n q = q ∙ rw (← h) (not-read (l .outcome) unread _ n)
 
-    pub judge-got : (st : State) (p : Progress) (r : Ruling) → l .outcome ≡ Read → st ≡ zeros 0 Running → p ≡ judgeRows (l .table) s (length s) (from 0 st)
+    pub judge-got : (st : State) (p : Progress) (r : Ruling) → l .outcome ≡ Read → st ≡ zeros 0 Running → p ≡ judgeRows (l .table) s (length s) (start st)
         → r ≡ ruling p → r ≡ judge file s
-    unfolding judge judgeRead judgeOn start from
+    unfolding judge judgeRead judgeOn
     judge-got st p r e a b q =
-        q ∙ ap ruling (b ∙ ap (λ (x : State). judgeRows (l .table) s (length s) (from 0 x)) a) ∙ rw (← h, e) refl
+        q ∙ ap ruling (b ∙ ap (λ (x : State). judgeRows (l .table) s (length s) (start x)) a) ∙ rw (← h, e) refl
 
-    module _ (end next : ℕ) (st : State) where
-      pub part-stop : (n : ℕ) → (l .outcome ≡ Read → ⊥) → n ≡ number (l .outcome) → record { number = n; next = next; rows = 0; state = st } ≡ judgePart file s end next st
-      unfolding judgePart
-      part-stop n d q =
-          ap (λ (k : ℕ). record { number = k; next = next; rows = 0; state = st }) q
-          ∙ rw (← h) (not-read (l .outcome) (λ (o : Outcome). record { number = number o; next = next; rows = 0; state = st }) _ d)
+    module _ (end : ℕ) (st : State) where
+      pub piece-stop : (n : ℕ) → (l .outcome ≡ Read → ⊥) → n ≡ number (l .outcome) → record { number = n; next = 0; rows = 0; state = st } ≡ judgePiece file s end st
+      unfolding judgePiece
+      piece-stop n d q =
+          ap (λ (k : ℕ). record { number = k; next = 0; rows = 0; state = st }) q
+          ∙ rw (← h) (not-read (l .outcome) (λ (o : Outcome). record { number = number o; next = 0; rows = 0; state = st }) _ d)
 
-      pub part-got : (p : Progress) → l .outcome ≡ Read → p ≡ judgeRows (l .table) s end (from next st) → p ≡ judgePart file s end next st
-      unfolding judgePart
-      part-got p e q = q ∙ rw (← h, e) refl
+      pub piece-got : (p : Progress) → l .outcome ≡ Read → p ≡ judgeRows (l .table) s end (start st) → p ≡ judgePiece file s end st
+      unfolding judgePiece
+      piece-got p e q = q ∙ rw (← h, e) refl
 
-pub ruleset entry-laws = (told-other, table-good, judge-stop, judge-got, part-stop, part-got)
+pub ruleset entry-laws = (told-other, table-good, judge-stop, judge-got, piece-stop, piece-got)

@@ -1,5 +1,4 @@
--- How the code judges a row, for the contracts of its parts: each task has a set of vertices as sixteen bits. And a journal judged
--- in parts.
+-- How the code judges a row, for the contracts of its parts: each task has a set of vertices as sixteen bits. And judging a piece.
 use mathlib.Core.Path.{_≡_}
 use mathlib.Core.Bool.{Bool, _&&_, not}
 use mathlib.Core.List.{List}
@@ -14,7 +13,7 @@ use Rattle.machine.specs.declared.State.{State}
 use Rattle.machine.specs.Steps.{released}
 use Rattle.journal.specs.declared.Progress.{Progress}
 use Rattle.journal.specs.Rows.{rowSet, rowCount, rowTask, rowVertex, rowEnd, choiceFault, fault}
-use Rattle.journal.specs.Judging.{judgeRows}
+use Rattle.journal.specs.Judging.{judgeRows, start}
 
 -- a pair is a vertex in its task's set
 unfoldable pub inSet : List ℕ → ℕ → ℕ → Bool
@@ -35,11 +34,8 @@ pub record SetTested (t : Table) (st : State) (s : List ℕ) (at n : ℕ) : Type
   pub whole : n ≡ 0 → rowEnd s at ≤ length s
   pub few : n ≡ 0 → rowCount s at ≤ t .m
 
--- IN PARTS, for a journal of any length: of a part s, the rows that begin before place `end`, from place `next` and a state on; the
--- rows are counted from 0. A file that is not read gives reading's number, and nothing moves.
-unfoldable pub from : ℕ → State → Progress
-from next st = record { number = 0; next = next; rows = 0; state = st }
-
-unfoldable pub judgePart : List ℕ → List ℕ → ℕ → ℕ → State → Progress
-judgePart file s end next st =
-    whenRead (read file .outcome) (λ o. record { number = number o; next = next; rows = 0; state = st }) λ _. judgeRows (read file .table) s end (from next st)
+-- A PIECE s of a journal, from a state on: its rows that begin before place `end`, counted from 0 (what it is of the whole:
+-- `InPieces`, specs/Pieces.antt). A file that is not read gives reading's number, and nothing moves.
+unfoldable pub judgePiece : List ℕ → List ℕ → ℕ → State → Progress
+judgePiece file s end st =
+    whenRead (read file .outcome) (λ o. record { number = number o; next = 0; rows = 0; state = st }) λ _. judgeRows (read file .table) s end (start st)

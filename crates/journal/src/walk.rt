@@ -4,8 +4,8 @@ ghost use Prim.Native.Nat.{_≤_};
 ghost use lib.ListN.{length};
 ghost use Rattle.table.specs.Good.{GoodTable};
 ghost use Rattle.journal.specs.Rows.{rowEnd, isStopped, choiceFault};
-ghost use Rattle.journal.specs.Listing.{SetTested, from, judgePart};
-ghost use Rattle.journal.specs.Judging.{judgeRow, judgeRows, ruling, unread, judge};
+ghost use Rattle.journal.specs.Listing.{SetTested, judgePiece};
+ghost use Rattle.journal.specs.Judging.{judgeRow, judgeRows, start, ruling, unread, judge};
 use crate::Progress;
 use crate::Ruling;
 use crate::fields;
@@ -113,14 +113,14 @@ fn judge_row(t: Table, bytes: &[u8], p: Progress) -> Progress
     }
 }
 
-// The rows that begin before place `end`, from a place and a state on, until one is refused.
-fn judge_rows(t: Table, bytes: &[u8], end: usize, next: usize, st: State) -> Progress
+// The rows that begin before place `end`, from a state on, until one is refused.
+fn judge_rows(t: Table, bytes: &[u8], end: usize, st: State) -> Progress
     requires { ⌜ GoodTable t ⌝ }
-    ensures { λ r. ⌜ r ≡ judgeRows t (now (bytes .entry)) end (from next st) ⌝ }
+    ensures { λ r. ⌜ r ≡ judgeRows t (now (bytes .entry)) end (start st) ⌝ }
 {
     let mut p = Progress {
         number: 0,
-        next: next,
+        next: 0,
         rows: 0,
         state: st,
     };
@@ -171,21 +171,21 @@ fn unreadable(o: Outcome) -> Ruling
     }
 }
 
-// Judges a part of a journal, so that one of any length needs no more memory than its longest part.
-pub fn judge_part(file: &[u8], part: &[u8], end: usize, next: usize, st: State) -> Progress
-    ensures { λ r. ⌜ r ≡ judgePart (now (file .entry)) (now (part .entry)) end next st ⌝ }
+// Judges a piece of a journal, so that a buffer of some size is enough for any length.
+pub fn judge_piece(file: &[u8], piece: &[u8], end: usize, st: State) -> Progress
+    ensures { λ r. ⌜ r ≡ judgePiece (now (file .entry)) (now (piece .entry)) end st ⌝ }
 {
     let loaded = table::read(file);
     let o = loaded.outcome;
     let Outcome::Read = o else {
         return Progress {
             number: table::number(o),
-            next: next,
+            next: 0,
             rows: 0,
             state: st,
         };
     };
-    judge_rows(loaded.table, part, end, next, st)
+    judge_rows(loaded.table, piece, end, st)
 }
 
 // Judges a journal against a table's bytes.
@@ -198,5 +198,5 @@ pub fn judge(file: &[u8], journal: &[u8]) -> Ruling
         return unreadable(o);
     };
     let idle = machine::zeros(0, Phase::Running);
-    rule(judge_rows(loaded.table, journal, journal.len(), 0, idle))
+    rule(judge_rows(loaded.table, journal, journal.len(), idle))
 }

@@ -2,18 +2,17 @@ use mathlib.Core.Path.{_≡_, refl, sym, ap, subst, _∙_}
 use Prim.Native.Nat.{_-_, _≤_, _<_}
 use native.Mathlib.Omega.{arith}
 use Rattle.journal.specs.declared.Progress.{Progress}
-use Rattle.journal.specs.Judging.{judgeRows}
-use Rattle.journal.specs.Listing.{from}
+use Rattle.journal.specs.Judging.{judgeRows, start}
 use Rattle.journal.proofs.Going.{over-end, over-refused, not-over, rows-over, rows-step}
 use Rattle.journal.proofs.RowFaults.{row-further, row-counted}
 use Rattle.journal.proofs.walk.judge_rows.Statement.{statement}
 use Rattle.journal.proofs.walk.judge_rows.Tie as tie
 
 abbrev Inv-loop : tie.InvT-loop
-Inv-loop t bytes end next p₀ p = (p .number ≡ 0) × (p .rows ≤ p .next) × (judgeRows t bytes end p ≡ judgeRows t bytes end p₀)
+Inv-loop t bytes end p₀ p = (p .number ≡ 0) × (p .rows ≤ p .next) × (judgeRows t bytes end p ≡ judgeRows t bytes end p₀)
 
 abbrev μ-loop : tie.MeasureT-loop
-μ-loop t bytes end next p₀ p = end - p .next
+μ-loop t bytes end p₀ p = end - p .next
 
 loop-holds : tie.Need-loop-holds Inv-loop μ-loop
 loop-holds c = (refl, omega arith, refl)
@@ -22,7 +21,7 @@ judge-row-requires : tie.Need-judge-row-requires Inv-loop μ-loop
 judge-row-requires c κs = (c .before .before .before .before .pre, c .before .before .loop .inv .1)
 
 returns : tie.Need-returns Inv-loop μ-loop
-unfolding from
+unfolding start
 returns c =
     let a = c .before .before .before .before .before .before .before .args in
     let p = c .before .before .before .before .before .loop .p in
@@ -61,7 +60,7 @@ loop-again c =
     )
 
 returns-2 : tie.Need-returns-2 Inv-loop μ-loop
-unfolding from
+unfolding start
 returns-2 c =
     let a = c .before .before .before .before .args in
     let p = c .before .before .loop .p in

@@ -1,7 +1,7 @@
 use borrow.Author.Needs.{needs}
 use Rattle.journal.proofs.Entries.{entry-laws}
-use Rattle.journal.proofs.walk.judge_part.Statement.{statement}
-use Rattle.journal.proofs.walk.judge_part.Tie as tie
+use Rattle.journal.proofs.walk.judge_piece.Statement.{statement}
+use Rattle.journal.proofs.walk.judge_piece.Tie as tie
 
 read-requires : tie.Need-read-requires
 read-requires c κs = search needs
@@ -21,7 +21,7 @@ judge-rows-requires c κs = search entry-laws
 returns-2 : tie.Need-returns-2
 returns-2 c = search entry-laws
 
-pub judge-part-spec : {M : Type 1} → statement M
-judge-part-spec =
+pub judge-piece-spec : {M : Type 1} → statement M
+judge-piece-spec =
     tie.close
     (tie.spec read-requires enum-told number-requires returns judge-rows-requires returns-2)
