@@ -1,4 +1,6 @@
-//! Tables of the sizes that are measured.
+//! Tables of the sizes that are measured, and runs of them.
+
+pub mod ticking;
 
 use second::random::{random_edges, ticks, Random};
 use second::table::MOST_TICKS;

@@ -1,10 +1,12 @@
-//! Reads, writes, verdicts and reports a second, ours beside the second program's: the same inputs in one run, the sides in turn, so that other load
+//! Reads, writes, verdicts, reports, openings and ticks a second, ours beside the second program's: the same inputs in one run, the sides in turn, so that other load
 //! falls on both. Buffers are not cleared in between. The ratio is ours over theirs: above 1, ours is the quicker.
 
+use bench::ticking::{Load, Runs};
 use bench::{accepted, sizes, Size};
 use compare::face;
 use second::random::{file, Random};
 use second::table::LARGEST;
+use second::Table;
 use std::hint::black_box;
 use std::time::Instant;
 
@@ -19,7 +21,7 @@ type Work<'a> = Box<dyn FnMut(usize) + 'a>;
 fn main() {
     let seed = 1;
     println!(
-        "{:<44}{:>16}{:>18}{:>8}{:>16}",
+        "{:<58}{:>16}{:>18}{:>8}{:>16}",
         "", "ours a second", "theirs a second", "ratio", "median of turns"
     );
     for size in sizes(&mut Random::new(seed), INPUTS) {
@@ -27,6 +29,9 @@ fn main() {
         writing(&size);
         judging(&size);
         reporting(&size);
+        opening(&size);
+        ticking(&size, Load::One);
+        ticking(&size, Load::All);
     }
 }
 
@@ -68,11 +73,15 @@ fn writing(size: &Size) {
     );
 }
 
-/// Files that the verdict accepts.
-fn good_files(size: &Size) -> Vec<Vec<u8>> {
+/// Tables that the verdict accepts.
+fn good_tables(size: &Size) -> Vec<Table> {
     let r = &mut Random::new(2);
     let tables = size.tables.iter().map(|table| accepted(r, table));
-    tables.map(|table| file(&table)).collect()
+    tables.collect()
+}
+
+fn good_files(size: &Size) -> Vec<Vec<u8>> {
+    good_tables(size).iter().map(file).collect()
 }
 
 fn judging(size: &Size) {
@@ -107,9 +116,39 @@ fn reporting(size: &Size) {
     );
 }
 
+fn opening(size: &Size) {
+    let files = good_files(size);
+    let ours = |k: usize| {
+        black_box(face::open(black_box(&files[k]), 0));
+    };
+    let theirs = |k: usize| {
+        black_box(second::open(black_box(&files[k]), 0));
+    };
+    measure(
+        &format!("open    {}", size.name),
+        Box::new(ours),
+        Box::new(theirs),
+    );
+}
+
+/// The same runs on both sides. Theirs keeps the machine's own state, so that it has nothing to set out as numbers.
+fn ticking(size: &Size, load: Load) {
+    let tables = good_tables(size);
+    let files = good_files(size);
+    let mut ours = Runs::new(&files, &tables, load, |file| face::open(file, 0).state);
+    let mut theirs = Runs::new(&files, &tables, load, |file| second::open(file, 0).state);
+    measure(
+        &format!("tick    {}, {}", size.name, load.name()),
+        Box::new(|k| ours.tick(black_box(k))),
+        Box::new(|k| theirs.tick(black_box(k))),
+    );
+    assert!(theirs.agree(&ours), "the runs differ");
+}
+
 /// Prints a line: the best turn of each side, their ratio, and the median of the ratios of turns side by side.
 fn measure(name: &str, mut ours: Work, mut theirs: Work) {
     let times = (TURN / turn(&mut ours, 1)).ceil() as usize;
+    turn(&mut theirs, 1);
     let mut turns: Vec<(f64, f64)> = Vec::new();
     for _ in 0..TURNS {
         turns.push((turn(&mut ours, times), turn(&mut theirs, times)));
@@ -120,7 +159,7 @@ fn measure(name: &str, mut ours: Work, mut theirs: Work) {
     let mut ratios: Vec<f64> = turns.iter().map(|t| t.1 / t.0).collect();
     ratios.sort_by(f64::total_cmp);
     println!(
-        "{name:<44}{:>16.0}{:>18.0}{:>8.2}{:>16.2}",
+        "{name:<58}{:>16.0}{:>18.0}{:>8.2}{:>16.2}",
         done / a,
         done / b,
         b / a,

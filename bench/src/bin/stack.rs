@@ -1,8 +1,8 @@
 //! The stack that each function of the C face takes, in bytes, measured on the built code: the function runs on a stack painted
 //! with a pattern, and the lowest byte that changed is looked up; the most over many inputs, accepted and refused. The return
-//! address counts; what its caller puts down for it (a table by value) is said beside it.
+//! address counts; what its caller puts down for it (a table or a state by value) is said beside it.
 
-use compare::{face, judging, reading, writing};
+use compare::{face, judging, reading, ticking, writing};
 use second::random::{file, largest_table, Random};
 use second::table::LARGEST;
 use std::mem::size_of;
@@ -109,6 +109,34 @@ fn judged(r: &mut Random, k: u64) -> Vec<u8> {
     }
 }
 
+fn open(r: &mut Random, k: u64) -> usize {
+    let bytes = judged(r, k);
+    let mut answer = std::mem::MaybeUninit::<face::OpenAnswer>::uninit();
+    let to = answer.as_mut_ptr() as usize;
+    let clock = r.number() as usize;
+    let words = [to, bytes.as_ptr() as usize, bytes.len(), clock, 0, 0];
+    taken(face::entry::mt_open as *const (), words, ())
+}
+
+/// Every task of the largest file is released for the first input.
+fn tick(r: &mut Random, k: u64) -> usize {
+    let mut input = ticking::input(r);
+    if k == 0 {
+        input.bytes = file(&largest_table(r));
+        input.state = second::flat::open(&input.bytes, 0).state;
+        input.releases = u16::MAX;
+    }
+    let mut answer = std::mem::MaybeUninit::<face::TickAnswer>::uninit();
+    let to = answer.as_mut_ptr() as usize;
+    let (from, count) = (input.bytes.as_ptr() as usize, input.bytes.len());
+    let words = [to, from, count, usize::from(input.releases), 0, 0];
+    taken(
+        face::entry::mt_tick as *const (),
+        words,
+        face::State::from(&input.state),
+    )
+}
+
 fn most(one: fn(&mut Random, u64) -> usize) -> usize {
     let each = (0..INPUTS).map(|k| one(&mut Random::new(k), k));
     each.max().unwrap_or(0)
@@ -123,4 +151,10 @@ fn main() {
     );
     println!("mt_verdict {:>6} bytes", most(verdict));
     println!("mt_report  {:>6} bytes", most(report));
+    println!("mt_open    {:>6} bytes", most(open));
+    println!(
+        "mt_tick    {:>6} bytes, and {} for the state, which its caller puts there",
+        most(tick),
+        size_of::<face::State>()
+    );
 }
