@@ -22,11 +22,11 @@ use Rattle.machine.specs.Steps.{released, available, availables, before, insert
 use Rattle.machine.specs.Ticking.{nobody, pairOf, runList, ticked, judged, advanceTo, advance, refuse, whenRunning, tickOn, tickRead, tickBy, tick}
 use Rattle.graph.specs.Words.{flag}
 use Rattle.graph.proofs.Facts.{past-end, all-at}
-use Rattle.promise.specs.Examples.{fileA}
+use Rattle.examples.specs.Examples.{fileA}
 use Rattle.promise.specs.Demand3.{tableOf, tickAt, stateAt, midAt, Sporadic}
-use Rattle.promise.specs.Witness.{someClock, roundReleases, roundChoices, someReleases, someChoices, availableAt, ownAt, Witness}
+use Rattle.examples.specs.Witness.{someClock, roundReleases, roundChoices, someReleases, someChoices, availableAt, ownAt, Witness}
 use Rattle.promise.proofs.Holds.{demand3}
-use Rattle.promise.proofs.Tests.{every, distinct, legalAmong, legalTest, walk, all-legal, namesTasks, apartAt, spacedTest, is-sporadic}
+use Rattle.examples.proofs.Tests.{every, distinct, legalAmong, legalTest, walk, all-legal, namesTasks, apartAt, spacedTest, is-sporadic}
 
 -- all that is computed of the run: each choice is legal, releases are spaced, the verdict, how often each task is released,
 -- a vertex that is passed over, and one that the machine would have chosen

@@ -9,8 +9,8 @@ use lib.IntN.{pos}
 use Rattle.graph.specs.Words.{bit, sum, flag, isIn}
 use Rattle.verdict.specs.Verdicts.{verdict}
 use Rattle.machine.specs.Steps.{availables, ownChoice, Legal}
 use Rattle.promise.specs.Demand3.{tableOf, tickAt, stateAt, midAt, Sporadic, Kept}
-use Rattle.promise.specs.Examples.{fileA}
+use Rattle.examples.specs.Examples.{fileA}
 
 -- six ticks before the clock's round is full
 unfoldable pub someClock : ℕ
