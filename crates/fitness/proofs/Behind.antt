@@ -1,6 +1,6 @@
 -- A test of each number below n, as a loop makes it; and the vertices with an unfinished direct predecessor as a set.
 use mathlib.Core.Path.{_≡_, refl, sym, ap, _∙_}
-use mathlib.Core.Bool.{Bool, true, false, _&&_, _||_, not, Bool·not-not, or-true}
+use mathlib.Core.Bool.{Bool, true, false, _&&_, _||_, not, or-true}
 use mathlib.Core.List.{List}
 use Prim.Native.Nat.{ℕ, zero, suc, _+_, _*_, _<_}
 use native.Mathlib.Omega.{arith}
@@ -13,11 +13,6 @@ use Rattle.graph.specs.Words.{bit, all}
 use Rattle.graph.specs.Graph.{edge}
 use Rattle.graph.proofs.Facts.{clash, and-true, all-at, off-when}
 use Rattle.graph.proofs.Bits.{bit-or, bit-zero}
-use Rattle.table.specs.declared.Table.{Table}
-use Rattle.table.specs.Memory.{vertices, succ, edgeIn}
-use Rattle.machine.specs.declared.State.{State}
-use Rattle.machine.specs.States.{remaining}
-use Rattle.machine.specs.Steps.{clear}
 
 -- ---- a test of each number below n
 pub all-next : (n : ℕ) (p : ℕ → Bool) → all (n + 1) p ≡ (all n p && p n)
@@ -90,11 +85,6 @@ module _ (succ remaining : List ℕ) (i : ℕ) where
 -- the loop is through
 pub behind-done : (succ remaining : List ℕ) (i behind k v : ℕ) → k ≡ v → Behind succ k remaining i behind → Behind succ v remaining i behind
 behind-done succ remaining i behind k v e h u = h u ∙ ap (λ (n : ℕ). not (all n (lets succ remaining i u))) e
-
--- EVERY DIRECT PREDECESSOR OF u HAS NOTHING REMAINING just if u is not in that set
-pub clear-bit : (t : Table) (st : State) (i behind : ℕ) → Behind (succ t i) (vertices t i) (st .remaining) i behind → (u : ℕ) → clear t st i u ≡ not (bit behind u)
-unfolding clear edgeIn remaining
-clear-bit t st i behind h u = sym (ap not (h u) ∙ Bool·not-not _)
 
 -- ---- the vertices of a set that have their whole cost remaining
 module _ (set u left cost : ℕ) where

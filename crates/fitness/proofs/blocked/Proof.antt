@@ -5,9 +5,9 @@ use Prim.Native.Nat.{ℕ, _-_, _≤_}
 use native.Mathlib.Omega.{arith}
 use borrow.Author.Needs.{needs}
 use Rattle.graph.specs.Words.{bit}
-use Rattle.machine.proofs.Behind.{Behind, behind-none, behind-more, behind-same, behind-done}
-use Rattle.machine.proofs.fitting.blocked.Statement.{statement}
-use Rattle.machine.proofs.fitting.blocked.Tie as tie
+use Rattle.fitness.proofs.Behind.{Behind, behind-none, behind-more, behind-same, behind-done}
+use Rattle.fitness.proofs.blocked.Statement.{statement}
+use Rattle.fitness.proofs.blocked.Tie as tie
 
 abbrev Inv-loop : tie.InvT-loop
 Inv-loop v remaining i succ behind₀ w₀ behind w = (w ≤ v) × Behind succ w remaining i behind

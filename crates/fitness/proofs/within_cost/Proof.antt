@@ -8,9 +8,10 @@ use borrow.Author.Tests.{le-leb, lt-leb}
 use lib.ListN.{getD}
 use lib.Dec.{leb}
 use Rattle.graph.specs.Words.{all}
-use Rattle.machine.proofs.Behind.{all-more, all-off, all-done}
-use Rattle.machine.proofs.fitting.within_cost.Statement.{statement}
-use Rattle.machine.proofs.fitting.within_cost.Tie as tie
+use Rattle.fitness.specs.Fitness.{withinCost}
+use Rattle.fitness.proofs.Behind.{all-more, all-off, all-done}
+use Rattle.fitness.proofs.within_cost.Statement.{statement}
+use Rattle.fitness.proofs.within_cost.Tie as tie
 
 abbrev Inv-loop : tie.InvT-loop
 Inv-loop costs remaining i u₀ u = (u ≤ 16) × (all u (λ w. leb (getD remaining (16 * i + w) 0) (getD costs (16 * i + w) 0)) ≡ true)
@@ -41,6 +42,7 @@ element-copy-out-if1-2 : tie.Need-element-copy-out-if1-2 Inv-loop μ-loop
 element-copy-out-if1-2 c = search needs
 
 returns : tie.Need-returns Inv-loop μ-loop
+unfolding withinCost
 returns c = all-off 16 _ (c .before .before .before .before .loop .u) (omega arith) (lt-leb _ _ (c .if1 .taken))
 
 add-u : tie.Need-add-u Inv-loop μ-loop
@@ -53,6 +55,7 @@ loop-again : tie.Need-loop-again Inv-loop μ-loop
 loop-again c = (omega arith, all-more _ _ (c .before .before .before .before .loop .inv .1) (le-leb _ _ (c .if1 .left)))
 
 returns-2 : tie.Need-returns-2 Inv-loop μ-loop
+unfolding withinCost
 returns-2 c = all-done 16 _ (c .before .loop .u) (omega arith) (c .before .loop .inv .1)
 
 pub within-cost-spec : {M : Type 1} → statement M

@@ -9,9 +9,9 @@ use borrow.Author.Tests.{eq-eqb, ne-eqb, eqb-true, eqb-false, not-true, not-fals
 use lib.ListN.{getD}
 use lib.Dec.{eqb}
 use Rattle.graph.specs.Words.{all, bit}
-use Rattle.machine.proofs.Behind.{all-more, all-off, all-done, in-short, in-whole, not-in}
-use Rattle.machine.proofs.fitting.whole_in.Statement.{statement}
-use Rattle.machine.proofs.fitting.whole_in.Tie as tie
+use Rattle.fitness.proofs.Behind.{all-more, all-off, all-done, in-short, in-whole, not-in}
+use Rattle.fitness.proofs.whole_in.Statement.{statement}
+use Rattle.fitness.proofs.whole_in.Tie as tie
 
 abbrev Inv-loop : tie.InvT-loop
 Inv-loop set v costs remaining i u₀ u = (u ≤ v) × (all u (λ w. not (bit set w) || eqb (getD remaining (16 * i + w) 0) (getD costs (16 * i + w) 0)) ≡ true)
