@@ -16,3 +16,5 @@ pub mod Own
 pub mod Once
 -- THE THEOREMS.
 pub mod Accepts
+-- The examples.
+pub mod Computed

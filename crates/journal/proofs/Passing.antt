@@ -55,9 +55,9 @@ module _ (t : Table) (st : State) (s : List ℕ) (at : ℕ) where
   abbrev mid : State
   mid = released t st (rowSet s at)
 
-  pick-zero : (b : Bool) (n x : ℕ) → 1 ≤ n → pick b n x ≡ 0 → (b ≡ false) × (x ≡ 0)
-  pick-zero true n x h e = absurd (omega arith)
-  pick-zero false n x h e = (refl, e)
+  pick-zero : (b : Bool) (n x : ℕ) → pick b n x ≡ 0 → 1 ≤ n → (b ≡ false) × (x ≡ 0)
+  pick-zero true n x e h = absurd (omega arith)
+  pick-zero false n x e h = (refl, e)
 
   lowest-zero : (n : ℕ) (p : ℕ → Bool) (y x : ℕ) → 1 ≤ y → lowestOr n p (λ i. y) x ≡ 0 → ((j : ℕ) → j < n → p j ≡ false) × (x ≡ 0)
   lowest-zero n p y x h e = ⊎-elim
@@ -69,15 +69,15 @@ module _ (t : Table) (st : State) (s : List ℕ) (at : ℕ) where
   pub passes : fault t st s at ≡ 0 → Passes t st s at
   unfolding fault setFault choiceFault
   passes e =
-      let a = pick-zero (isStopped (st .phase)) 47 _ (omega arith) e in
-      let b = pick-zero (cutShort s at) 40 _ (omega arith) (a .1) in
-      let c = pick-zero (wrongMark s at) 41 _ (omega arith) (b .1) in
-      let d = pick-zero (badList t s at) 42 _ (omega arith) (c .1) in
+      let a = pick-zero (isStopped (st .phase)) 47 _ e (omega arith) in
+      let b = pick-zero (cutShort s at) 40 _ (a .1) (omega arith) in
+      let c = pick-zero (wrongMark s at) 41 _ (b .1) (omega arith) in
+      let d = pick-zero (badList t s at) 42 _ (c .1) (omega arith) in
       let f = lowest-zero 16 (λ i. bit (rowSet s at) i && leb (t .n) i) 31 _ (omega arith) (d .1) in
       let g = lowest-zero (t .n) (λ i. bit (rowSet s at) i && ltb 0 (wait st i)) 33 _ (omega arith) (f .1) in
-      let h = pick-zero (notAvailable t mid s at) 44 _ (omega arith) (g .1) in
-      let i = pick-zero (tooFew t mid s at) 45 _ (omega arith) (h .1) in
-      let j = pick-zero (passesOver t mid (listed s at)) 46 _ (omega arith) (i .1) in
+      let h = pick-zero (notAvailable t mid s at) 44 _ (g .1) (omega arith) in
+      let i = pick-zero (tooFew t mid s at) 45 _ (h .1) (omega arith) in
+      let j = pick-zero (passesOver t mid (listed s at)) 46 _ (i .1) (omega arith) in
       record { runs = a .0; whole = b .0; mark = c .0; list = d .0; tasks = f .0; free = g .0; available = h .0; enough = i .0; first = j .0 }
 
   -- and the other way

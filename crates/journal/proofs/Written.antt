@@ -53,35 +53,64 @@ module _ (s : List ℕ) (at : ℕ) where
       ∙ ap (λ (z : ℕ). key i / 16 ∷ z ∷ drop (at + 5 + 2 * i + 1 + 1) s) y
       ∙ ap (λ (z : List ℕ). key i / 16 ∷ key i % 16 ∷ z) (ap (λ (k : ℕ). drop k s) n ∙ r ∙ ap (λ (c : ℕ). pairBytes (rowFrom k (suc i) key) ++ drop c s) m)
 
+  one : (i j : ℕ) → i + 1 ≡ j → i < length s → drop i s ≡ getD s i 0 ∷ drop j s
+  one i j e h = next s i h ∙ ap (λ (k : ℕ). getD s i 0 ∷ drop k s) e
+
+  low-byte : (a b : ℕ) → a < 256 → a ≡ (a + 256 * b) % 256
+  low-byte a b h = omega arith
+
+  high-byte : (a b : ℕ) → a < 256 → b ≡ (a + 256 * b) / 256
+  high-byte a b h = omega arith
+
   -- THE BYTES of a row that lies within the journal, has its mark, and lists vertices below 16
-  pub row-bytes : ((k : ℕ) → getD s k 0 < 256) → rowEnd s at ≤ length s → getD s at 0 ≡ 0x4A → getD s (at + 1) 0 ≡ 0x52
-      → ((j : ℕ) → j < rowCount s at → rowVertex s at j < 16)
-      → drop at s ≡ rowBytes (rowSet s at) (listed s at) ++ drop (rowEnd s at) s
-  unfolding rowEnd rowSet rowBytes rowCount listed row
-  row-bytes bytes whole m₁ m₂ v =
-      let l₂ = bytes (at + 2) in
-      let a : drop at s ≡ 0x4A ∷ drop (at + 1) s = next s at (omega arith) ∙ ap (λ (z : ℕ). z ∷ drop (at + 1) s) m₁ in
-      let b : drop (at + 1) s ≡ 0x52 ∷ drop (at + 2) s = one (at + 1) (at + 2) (omega arith) (omega arith) ∙ ap (λ (z : ℕ). z ∷ drop (at + 2) s) m₂ in
-      let c : drop (at + 2) s ≡ rowSet s at % 256 ∷ drop (at + 3) s =
-      one (at + 2) (at + 3) (omega arith) (omega arith) ∙ ap (λ (z : ℕ). z ∷ drop (at + 3) s) (lows (getD s (at + 2) 0) (getD s (at + 3) 0) l₂) in
-      let d : drop (at + 3) s ≡ rowSet s at / 256 ∷ drop (at + 4) s =
-      one (at + 3) (at + 4) (omega arith) (omega arith) ∙ ap (λ (z : ℕ). z ∷ drop (at + 4) s) (highs (getD s (at + 2) 0) (getD s (at + 3) 0) l₂) in
-      let g : drop (at + 4) s ≡ length (listed s at) ∷ drop (at + 5) s =
-      one (at + 4) (at + 5) (omega arith) (omega arith) ∙ ap (λ (z : ℕ). z ∷ drop (at + 5) s) (sym (length-row (rowCount s at) key)) in
-      let q : at + 5 ≡ at + 5 + 2 * 0 = omega arith in
-      let p = ap (λ (k : ℕ). drop k s) q ∙ pairs-from (rowCount s at) 0 (omega arith) (λ j l. v j (omega arith)) in
-      let n : at + 5 + 2 * (0 + rowCount s at) ≡ rowEnd s at = omega arith in
-      let r = p ∙ ap (λ (k : ℕ). pairBytes (listed s at) ++ drop k s) n in
-      a ∙ ap (_∷_ 0x4A) (b ∙ ap (_∷_ 0x52) (c ∙ ap (_∷_ (rowSet s at % 256)) (d ∙ ap (_∷_ (rowSet s at / 256)) (g ∙ ap (_∷_ (length (listed s at))) r))))
-    where
-      one : (i j : ℕ) → i + 1 ≡ j → i < length s → drop i s ≡ getD s i 0 ∷ drop j s
-      one i j e h = next s i h ∙ ap (λ (k : ℕ). getD s i 0 ∷ drop k s) e
+  module _ (bytes : (k : ℕ) → getD s k 0 < 256) (whole : rowEnd s at ≤ length s) (m₁ : getD s at 0 ≡ 0x4A) (m₂ : getD s (at + 1) 0 ≡ 0x52)
+      (v : (j : ℕ) → j < rowCount s at → rowVertex s at j < 16) where
+    within : at + 5 ≤ length s
+    unfolding rowEnd
+    within = omega arith
 
-      lows : (a b : ℕ) → a < 256 → a ≡ (a + 256 * b) % 256
-      lows a b h = omega arith
+    mark-bytes : drop at s ≡ 0x4A ∷ 0x52 ∷ drop (at + 2) s
+    mark-bytes =
+        let w = within in
+        one at (at + 1) (omega arith) (omega arith) ∙ ap (λ (z : ℕ). z ∷ drop (at + 1) s) m₁
+        ∙ ap (_∷_ 0x4A) (one (at + 1) (at + 2) (omega arith) (omega arith) ∙ ap (λ (z : ℕ). z ∷ drop (at + 2) s) m₂)
 
-      highs : (a b : ℕ) → a < 256 → b ≡ (a + 256 * b) / 256
-      highs a b h = omega arith
+    low-is : drop (at + 2) s ≡ rowSet s at % 256 ∷ drop (at + 3) s
+    unfolding rowSet
+    low-is =
+        let w = within in
+        one (at + 2) (at + 3) (omega arith) (omega arith)
+        ∙ ap (λ (z : ℕ). z ∷ drop (at + 3) s) (low-byte (getD s (at + 2) 0) (getD s (at + 3) 0) (bytes (at + 2)))
+
+    high-is : drop (at + 3) s ≡ rowSet s at / 256 ∷ drop (at + 4) s
+    unfolding rowSet
+    high-is =
+        let w = within in
+        one (at + 3) (at + 4) (omega arith) (omega arith)
+        ∙ ap (λ (z : ℕ). z ∷ drop (at + 4) s) (high-byte (getD s (at + 2) 0) (getD s (at + 3) 0) (bytes (at + 2)))
+
+    count-byte : drop (at + 4) s ≡ length (listed s at) ∷ drop (at + 5) s
+    unfolding rowCount listed
+    count-byte =
+        let w = within in
+        one (at + 4) (at + 5) (omega arith) (omega arith) ∙ ap (λ (z : ℕ). z ∷ drop (at + 5) s) (sym (length-row (rowCount s at) key))
+
+    the-pairs : drop (at + 5) s ≡ pairBytes (listed s at) ++ drop (rowEnd s at) s
+    unfolding rowEnd listed row
+    the-pairs =
+        let q : at + 5 ≡ at + 5 + 2 * 0 = omega arith in
+        let n : at + 5 + 2 * (0 + rowCount s at) ≡ at + 5 + 2 * rowCount s at = omega arith in
+        ap (λ (k : ℕ). drop k s) q ∙ pairs-from (rowCount s at) 0 (omega arith) (λ j l. v j (omega arith))
+        ∙ ap (λ (k : ℕ). pairBytes (rowFrom (rowCount s at) 0 key) ++ drop k s) n
+
+    pub row-bytes : drop at s ≡ rowBytes (rowSet s at) (listed s at) ++ drop (rowEnd s at) s
+    unfolding rowBytes
+    row-bytes =
+        mark-bytes
+        ∙ ap (λ (z : List ℕ). 0x4A ∷ 0x52 ∷ z) low-is
+        ∙ ap (λ (z : List ℕ). 0x4A ∷ 0x52 ∷ rowSet s at % 256 ∷ z) high-is
+        ∙ ap (λ (z : List ℕ). 0x4A ∷ 0x52 ∷ rowSet s at % 256 ∷ rowSet s at / 256 ∷ z) count-byte
+        ∙ ap (λ (z : List ℕ). 0x4A ∷ 0x52 ∷ rowSet s at % 256 ∷ rowSet s at / 256 ∷ length (listed s at) ∷ z) the-pairs
 
 -- ---- from the bytes of a row to its fields
 pair-length : (ks : List ℕ) → length (pairBytes ks) ≡ 2 * length ks

@@ -4,3 +4,5 @@ pub mod Judging
 -- Runs and their writing; what the judge accepts, stated.
 pub mod Runs
 pub mod Accepting
+-- Examples, stated.
+pub mod Examples
