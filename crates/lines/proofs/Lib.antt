@@ -4,4 +4,5 @@ pub mod Held
 -- THE CODE: laws that its proofs cite.
 pub mod Parted
 pub mod Lined
+pub mod Steps
 pub mod Unique
