@@ -1,5 +1,8 @@
 //! Tables of the sizes that are measured.
 
+pub mod plain;
+pub mod plain_check;
+
 use second::random::{random_edges, ticks, Random};
 use second::table::MOST_TICKS;
 use second::{Table, Task};

@@ -115,6 +115,7 @@ fn most(one: fn(&mut Random, u64) -> usize) -> usize {
 }
 
 fn main() {
+    println!("the stack of a function: run on one painted with a pattern, the most that changed over {INPUTS} inputs");
     println!("mt_read    {:>6} bytes", most(read));
     println!(
         "mt_write   {:>6} bytes, and {} for the table, which its caller puts there",
