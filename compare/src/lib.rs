@@ -5,6 +5,7 @@ pub mod face;
 pub mod judging;
 pub mod reading;
 pub mod reporting;
+pub mod telling;
 pub mod writing;
 
 /// Every comparison; a new one is a line here.
