@@ -3,6 +3,7 @@
 
 pub mod examples;
 pub mod explore;
+pub mod flat;
 pub mod graph;
 pub mod legal;
 pub mod machine;
