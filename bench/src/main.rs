@@ -1,7 +1,8 @@
-//! Reads, writes, verdicts and reports a second: ours beside the second program's and beside plain C's. The same inputs in one run,
+//! Reads, writes, verdicts, reports, openings and ticks a second: ours beside the second program's and beside plain C's. The same inputs in one run,
 //! the sides in turn, so that other load falls on all. Buffers are not cleared in between. A ratio is ours over theirs: above 1,
 //! ours is the quicker.
 
+use bench::ticking::{Load, Runs};
 use bench::{accepted, plain, plain_check, sizes, Size};
 use compare::face;
 use second::random::{file, Random};
@@ -11,9 +12,10 @@ use std::hint::black_box;
 use std::time::Instant;
 
 const INPUTS: usize = 64;
-/// Turns of each side; a turn takes about `TURN` seconds.
-const TURNS: usize = 151;
-const TURN: f64 = 0.003;
+/// Turns of each side; a turn of the slowest takes about `TURN` seconds or once through all inputs, so that most turns of every side
+/// are not interrupted.
+const TURNS: usize = 301;
+const TURN: f64 = 0.0015;
 
 /// What a side does with input k.
 type Work<'a> = Box<dyn FnMut(usize) + 'a>;
@@ -26,7 +28,7 @@ fn main() {
     plain_check::check(&[inputs, good].concat());
     println!("a second, the best of {TURNS} turns; ours over each, and the median of that over the turns");
     println!(
-        "{:<44}{:>10}{:>10}{:>10}{:>16}{:>16}",
+        "{:<58}{:>10}{:>10}{:>10}{:>16}{:>16}",
         "", "ours", "second", "plain C", "ours/second", "ours/plain C"
     );
     for size in &sizes {
@@ -34,6 +36,9 @@ fn main() {
         writing(size);
         judging(size);
         reporting(size);
+        opening(size);
+        ticking(size, Load::One);
+        ticking(size, Load::All);
     }
 }
 
@@ -109,12 +114,52 @@ fn reporting(size: &Size) {
     measure(&format!("report  {}", size.name), sides);
 }
 
+fn opening(size: &Size) {
+    let files: Vec<Vec<u8>> = good_tables(size).iter().map(file).collect();
+    let mut state = face::open(&files[0], 0).state;
+    let ours = |k: usize| {
+        black_box(face::open(black_box(&files[k]), 0));
+    };
+    let second = |k: usize| {
+        black_box(second::open(black_box(&files[k]), 0));
+    };
+    let plain = |k: usize| {
+        black_box(plain::open(black_box(&files[k]), 0, black_box(&mut state)));
+    };
+    let sides: [Work; 3] = [Box::new(ours), Box::new(second), Box::new(plain)];
+    measure(&format!("open    {}", size.name), sides);
+}
+
+/// The same runs on all sides. The second program keeps the machine's own state, so that it has nothing to set out as numbers;
+/// plain C moves the state on where it stands, ours takes it and gives it back.
+fn ticking(size: &Size, load: Load) {
+    let tables = good_tables(size);
+    let files: Vec<Vec<u8>> = tables.iter().map(file).collect();
+    let mut ours = Runs::new(&files, &tables, load, |file| face::open(file, 0).state);
+    let mut second = Runs::new(&files, &tables, load, |file| second::open(file, 0).state);
+    let mut plain = Runs::new(&files, &tables, load, |file| face::open(file, 0).state);
+    let sides: [Work; 3] = [
+        Box::new(|k| ours.tick(black_box(k))),
+        Box::new(|k| second.tick(black_box(k))),
+        Box::new(|k| plain.tick_plain(black_box(k))),
+    ];
+    measure(&format!("tick    {}, {}", size.name, load.name()), sides);
+    assert!(second.agree(&ours), "the runs differ");
+    assert!(second.agree(&plain), "the runs in plain C differ");
+}
+
 /// Prints a line: the best turn of each side, and ours over each of the others.
 fn measure(name: &str, mut sides: [Work; 3]) {
-    let times = (TURN / turn(&mut sides[0], 1)).ceil() as usize;
-    let turns: Vec<[f64; 3]> = (0..TURNS)
-        .map(|_| sides.each_mut().map(|side| turn(side, times)))
-        .collect();
+    let once = (0..3).map(|_| sides.each_mut().map(|side| turn(side, 1)));
+    let slowest = |t: [f64; 3]| t.into_iter().fold(0.0, f64::max);
+    let times = (TURN / once.map(slowest).fold(f64::INFINITY, f64::min)).ceil() as usize;
+    let mut turns = vec![[0.0; 3]; TURNS];
+    for (at, taken) in turns.iter_mut().enumerate() {
+        // Each side goes first in turn.
+        for side in (0..3).map(|k| (at + k) % 3) {
+            taken[side] = turn(&mut sides[side], times);
+        }
+    }
     let best = |side: usize| turns.iter().map(|t| t[side]).fold(f64::INFINITY, f64::min);
     let rate = |side: usize| (times * INPUTS) as f64 / best(side);
     let over = |side: usize| {
@@ -123,7 +168,7 @@ fn measure(name: &str, mut sides: [Work; 3]) {
         format!("{:.2} ({:.2})", best(side) / best(0), ratios[TURNS / 2])
     };
     println!(
-        "{name:<44}{:>10.0}{:>10.0}{:>10.0}{:>16}{:>16}",
+        "{name:<58}{:>10.0}{:>10.0}{:>10.0}{:>16}{:>16}",
         rate(0),
         rate(1),
         rate(2),

@@ -1,9 +1,7 @@
-//! The plain C version (plain.h) from Rust. Its table is laid out as the C face's.
+//! The plain C version (plain.h) from Rust. Its table and its state are laid out as the C face's.
 
 use compare::face;
-use second::machine::{Answer, Job, Phase};
-use second::table::{ENTRIES, ROW};
-use second::State as Theirs;
+use second::machine::Answer;
 
 #[repr(C)]
 #[derive(Clone, Copy, PartialEq, Eq, Debug)]
@@ -11,24 +9,6 @@ pub struct Found {
     pub number: u8,
     pub task: u8,
     pub place: usize,
-}
-
-#[repr(C)]
-#[derive(Clone, Copy, PartialEq, Eq, Debug)]
-pub struct JobOf {
-    pub live: u8,
-    pub deadline: u32,
-    pub wait: u32,
-}
-
-#[repr(C)]
-#[derive(Clone, Copy, PartialEq, Eq, Debug)]
-pub struct State {
-    pub clock: u32,
-    pub stopped: u8,
-    pub at: u8,
-    pub tasks: [JobOf; ENTRIES],
-    pub remaining: [u32; ROW],
 }
 
 #[repr(C)]
@@ -41,7 +21,8 @@ pub struct Ticked {
     pub finished: u16,
 }
 
-mod entry {
+/// The functions themselves, for measurements.
+pub mod entry {
     use super::*;
 
     extern "C" {
@@ -49,11 +30,16 @@ mod entry {
         pub fn plain_write(table: *const face::Table, buffer: *mut u8, room: usize) -> Found;
         pub fn plain_verdict(bytes: *const u8, count: usize) -> face::VerdictAnswer;
         pub fn plain_report(bytes: *const u8, count: usize, buffer: *mut u8, room: usize) -> usize;
-        pub fn plain_open(bytes: *const u8, count: usize, clock: u32, state: *mut State) -> Found;
+        pub fn plain_open(
+            bytes: *const u8,
+            count: usize,
+            clock: u32,
+            state: *mut face::State,
+        ) -> Found;
         pub fn plain_tick(
             bytes: *const u8,
             count: usize,
-            state: *mut State,
+            state: *mut face::State,
             releases: u16,
         ) -> Ticked;
     }
@@ -78,44 +64,17 @@ pub fn report(bytes: &[u8], buffer: &mut [u8]) -> usize {
     unsafe { entry::plain_report(bytes.as_ptr(), bytes.len(), to, room) }
 }
 
-pub fn open(bytes: &[u8], clock: u32, state: &mut State) -> Found {
+pub fn open(bytes: &[u8], clock: u32, state: &mut face::State) -> Found {
     unsafe { entry::plain_open(bytes.as_ptr(), bytes.len(), clock, state) }
 }
 
-pub fn tick(bytes: &[u8], state: &mut State, releases: u16) -> Ticked {
+pub fn tick(bytes: &[u8], state: &mut face::State, releases: u16) -> Ticked {
     unsafe { entry::plain_tick(bytes.as_ptr(), bytes.len(), state, releases) }
 }
 
 /// A table to read into.
 pub fn no_table() -> face::Table {
     face::Table::from(&second::Table::ZERO)
-}
-
-impl From<&Theirs> for State {
-    fn from(state: &Theirs) -> State {
-        let (stopped, at) = match state.phase {
-            Phase::Running => (0, 0),
-            Phase::Stopped(task) => (1, task),
-        };
-        State {
-            clock: state.clock,
-            stopped,
-            at,
-            tasks: state.tasks.map(|job| match job {
-                Job::Idle { wait } => JobOf {
-                    live: 0,
-                    deadline: 0,
-                    wait,
-                },
-                Job::Live { deadline, wait } => JobOf {
-                    live: 1,
-                    deadline,
-                    wait,
-                },
-            }),
-            remaining: state.remaining,
-        }
-    }
 }
 
 impl From<&Answer> for Ticked {

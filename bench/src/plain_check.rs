@@ -2,6 +2,7 @@
 
 use crate::plain;
 use compare::{face, judging, reading, writing};
+use second::flat::FlatState;
 use second::random::*;
 use second::table::LARGEST;
 use second::Table;
@@ -22,6 +23,10 @@ pub fn check(tables: &[Table]) {
         write(&writing::input(r));
         run(r);
     }
+}
+
+fn flat(state: &second::State) -> face::State {
+    face::State::from(&FlatState::from(state))
 }
 
 fn same<T: PartialEq + std::fmt::Debug>(what: &str, plain: T, second: T) {
@@ -52,10 +57,10 @@ fn whole(bytes: &[u8]) {
     let length = plain::report(bytes, &mut buffer);
     same("report", &buffer[..length], &text[..]);
     let opened = second::open(bytes, 7);
-    let mut state = plain::State::from(&opened.state);
+    let mut state = flat(&opened.state);
     state.clock = 1;
     plain::open(bytes, 7, &mut state);
-    same("opening", state, plain::State::from(&opened.state));
+    same("opening", state, flat(&opened.state));
 }
 
 fn write(table: &Table) {
@@ -87,11 +92,11 @@ fn run(r: &mut Random) {
         } else {
             state
         };
-        let mut after = plain::State::from(&before);
+        let mut after = flat(&before);
         let answer = plain::tick(&bytes, &mut after, set);
         let ticked = second::tick(&bytes, &before, set);
         same("tick", answer, plain::Ticked::from(&ticked.answer));
-        same("state", after, plain::State::from(&ticked.state));
+        same("state", after, flat(&ticked.state));
         if ticked.answer.number == 0 {
             state = ticked.state;
         }
