@@ -53,6 +53,7 @@ fn face_task(a: Activity) -> FaceTask
 fn face_tasks(st: State) -> [FaceTask; 16]
     ensures { λ r. ⌜ r ≡ row 16 (λ i. faceTask (activity st i)) ⌝ }
 {
+    let given = st.tasks;
     let none = FaceTask {
         live: 0,
         deadline: 0,
@@ -60,7 +61,7 @@ fn face_tasks(st: State) -> [FaceTask; 16]
     };
     let mut tasks = [none; 16];
     for i in 0..16usize {
-        let s = st.tasks[i];
+        let s = given[i];
         let a = s.activity;
         tasks[i] = face_task(a);
     }
@@ -111,12 +112,13 @@ fn activity_of(a: FaceTask) -> TaskState
 fn tasks_of(s: FaceState) -> [TaskState; 16]
     ensures { λ r. ⌜ r ≡ stateOf s .tasks ⌝ }
 {
+    let given = s.tasks;
     let idle = TaskState {
         activity: Activity::Idle { wait: 0 },
     };
     let mut tasks = [idle; 16];
     for i in 0..16usize {
-        tasks[i] = activity_of(s.tasks[i]);
+        tasks[i] = activity_of(given[i]);
     }
     tasks
 }
@@ -158,8 +160,9 @@ fn proper_task(a: FaceTask) -> bool
 fn proper_tasks(s: FaceState) -> bool
     ensures { λ r. ⌜ r ≡ all 16 (λ i. properTask (faceTaskAt s i)) ⌝ }
 {
+    let tasks = s.tasks;
     for i in 0..16usize {
-        if !proper_task(s.tasks[i]) {
+        if !proper_task(tasks[i]) {
             return false;
         }
     }
