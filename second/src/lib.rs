@@ -14,6 +14,7 @@ pub mod sum;
 pub mod table;
 pub mod vectors;
 pub mod verdict;
+pub mod watch;
 pub mod writer;
 
 pub use machine::{open, tick, tick_in_place, Opened, State, Ticked};
@@ -21,4 +22,5 @@ pub use reader::{read, read_at, Core, Read};
 pub use report::report;
 pub use table::{Table, Task};
 pub use verdict::{verdict, Verdict};
+pub use watch::watch;
 pub use writer::write;

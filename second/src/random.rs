@@ -2,11 +2,13 @@
 
 mod bytes;
 mod flat;
+mod runs;
 mod states;
 mod tables;
 
 pub use bytes::*;
 pub use flat::*;
+pub use runs::*;
 pub use states::*;
 pub use tables::*;
 

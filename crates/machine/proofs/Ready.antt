@@ -6,8 +6,7 @@ use Prim.Native.Nat.{ℕ, zero, suc, _+_, _-_, _*_, _/_, _%_, _^_, _≤_, _<_}
 use native.Mathlib.Omega.{arith}
 use native.Mathlib.Numerals.{add-one}
 use native.Mathlib.Decide.{ℕ-discrete, decLt, decLe}
-use lib.ListN.{length, getD, set}
-use lib.Seq.{getD-set-same, getD-set-other}
+use lib.ListN.{length, getD}
 use lib.Dec.{ltb, eqb}
 use lib.Bits.{bitAnd, bitOr, or-lt, and-le-r}
 use borrow.Author.Tests.{lt-ltb, le-ltb, eq-eqb, ne-eqb}
@@ -209,11 +208,3 @@ unfolding left deadline ticksLeft wrap
 left-by st i d r hd hc hr e w =
     let s : r ≡ (d + 2 ^ 32 - st .clock) % 2 ^ 32 = omega arith in
     s ∙ ap (λ (x : ℕ). (x + 2 ^ 32 - st .clock) % 2 ^ 32) e
-
--- a row that is filled in from its start
-pub filled : (f : ℕ → ℕ) (l : List ℕ) (i x : ℕ) → i < length l → ((j : ℕ) → j < i → getD l j 0 ≡ f j) → x ≡ f i
-    → (j : ℕ) → j < i + 1 → getD (set l i x) j 0 ≡ f j
-filled f l i x h g e j b = elim (ℕ-discrete j i) [
-  | yes q ↦ ap (λ (k : ℕ). getD (set l i x) k 0) q ∙ getD-set-same l i x 0 h ∙ e ∙ ap f (sym q)
-  | no d ↦ getD-set-other l i j x 0 d ∙ g j (omega arith)
-]

@@ -16,10 +16,14 @@ use Rattle.graph.proofs.Unique.{by-definition}
 use Rattle.table.proofs.Unique.{OneResult}
 use Rattle.machine.proofs.opening.open.Kinds as open-kinds
 use Rattle.machine.proofs.opening.open.Reads as open-reads
+use Rattle.machine.proofs.opening.zeros.Kinds as zeros-kinds
+use Rattle.machine.proofs.opening.zeros.Reads as zeros-reads
 use Rattle.machine.proofs.State.tick.Kinds as tick-kinds
 use Rattle.machine.proofs.State.tick.Reads as tick-reads
 use Rattle.machine.proofs.steps.release.Kinds as release-kinds
 use Rattle.machine.proofs.steps.release.Reads as release-reads
+use Rattle.machine.proofs.choosing.ticks_left.Kinds as ticks-left-kinds
+use Rattle.machine.proofs.choosing.ticks_left.Reads as ticks-left-reads
 use Rattle.machine.proofs.choosing.available_sets.Kinds as available-sets-kinds
 use Rattle.machine.proofs.choosing.available_sets.Reads as available-sets-reads
 use Rattle.machine.proofs.ticking.advance_from.Kinds as advance-from-kinds
@@ -34,6 +38,9 @@ use Rattle.machine.specs.declared.Answer.{Answer}
 pub open-one : OneResult 1 open-kinds.ps open-kinds.r open-reads.Post
 open-one κs args x y s t = by-definition
 
+pub zeros-one : OneResult 0 zeros-kinds.ps zeros-kinds.r zeros-reads.Post
+zeros-one κs args x y s t = by-definition
+
 pub tick-one : OneResult 1 tick-kinds.ps tick-kinds.r tick-reads.Post
 tick-one κs args x y s t = by-definition
 
@@ -43,6 +50,9 @@ release-one κs args x y s t = by-definition
 
 pub available-sets-one : OneResult 0 available-sets-kinds.ps available-sets-kinds.r available-sets-reads.Post
 available-sets-one κs args x y s t = by-definition
+
+pub ticks-left-one : OneResult 0 ticks-left-kinds.ps ticks-left-kinds.r ticks-left-reads.Post
+ticks-left-one κs args x y s t = by-definition
 
 pub advance-from-one : OneResult 0 advance-from-kinds.ps advance-from-kinds.r advance-from-reads.Post
 advance-from-one κs args x y s t = by-definition

@@ -2,9 +2,9 @@
 ghost use mathlib.Core.Path.{_≡_};
 ghost use mathlib.Core.Bool.{_&&_, not, true, false};
 ghost use Prim.Native.Nat.{ℕ, _+_, _≤_, _<_};
-ghost use lib.ListN.{length, getD, take};
+ghost use lib.ListN.{length, take};
 ghost use lib.Dec.{eqb};
-ghost use Rattle.graph.specs.Words.{pick, bit, setOf};
+ghost use Rattle.graph.specs.Words.{pick, bit, row, setOf};
 ghost use Rattle.table.specs.Good.{GoodTable};
 ghost use Rattle.machine.specs.States.{isLive, deadlineOf, left};
 ghost use Rattle.machine.specs.Steps.{availableSets, ownChoice};
@@ -78,8 +78,8 @@ pub fn available_sets(t: Table, st: State) -> [u16; 16]
 }
 
 // Each task's ticks left.
-fn ticks_left(st: State) -> [u32; 16]
-    ensures { λ r. ⌜ ((i : ℕ) → i < 16 → getD r i 0 ≡ left st i) ⌝ }
+pub fn ticks_left(st: State) -> [u32; 16]
+    ensures { λ r. ⌜ r ≡ row 16 (left st) ⌝ }
 {
     let mut ticks = [0u32; 16];
     for i in 0..16usize {
