@@ -1,9 +1,13 @@
 //! Recorded vectors: streams of cases, and the answers in text.
 
 mod read_cases;
+mod verdict_cases;
+mod verdicts;
 mod write_cases;
 
 pub use read_cases::read_cases;
+pub use verdict_cases::verdict_cases;
+pub use verdicts::*;
 pub use write_cases::write_cases;
 
 use crate::reader::read;
