@@ -5,7 +5,8 @@ use std::process::ExitCode;
 
 const USAGE: &str = "vectors read FILE_IN FILE_OUT    write cases and answers for the reader
 vectors write FILE_IN FILE_OUT   write cases and answers for the writer
-vectors check-read FILE_IN FILE_OUT, vectors check-write FILE_IN FILE_OUT
+vectors watch FILE_IN FILE_OUT   write cases and answers for the watch program
+vectors check-read FILE_IN FILE_OUT, and so check-write and check-watch
                                  answer the cases anew and compare";
 
 const SEED: u64 = 1;
@@ -14,17 +15,16 @@ fn main() -> ExitCode {
     let words: Vec<String> = std::env::args().skip(1).collect();
     let words: Vec<&str> = words.iter().map(String::as_str).collect();
     let done = match words[..] {
-        ["read", cases, answers] => {
-            record(read_stream(&read_cases(SEED)), answer_reads, cases, answers)
+        ["read", cases, answers] => record(read_stream(&read_cases(SEED)), reads, cases, answers),
+        ["write", cases, answers] => {
+            record(write_stream(&write_cases(SEED)), writes, cases, answers)
         }
-        ["write", cases, answers] => record(
-            write_stream(&write_cases(SEED)),
-            answer_writes,
-            cases,
-            answers,
-        ),
-        ["check-read", cases, answers] => check(answer_reads, cases, answers),
-        ["check-write", cases, answers] => check(answer_writes, cases, answers),
+        ["watch", cases, answers] => {
+            record(read_stream(&watch_cases(SEED)), watches, cases, answers)
+        }
+        ["check-read", cases, answers] => check(reads, cases, answers),
+        ["check-write", cases, answers] => check(writes, cases, answers),
+        ["check-watch", cases, answers] => check(watches, cases, answers),
         _ => Err(String::from(USAGE)),
     };
     match done {
@@ -39,27 +39,48 @@ fn main() -> ExitCode {
     }
 }
 
-type Answers = fn(&[u8]) -> Option<Vec<Expected>>;
+/// The text of the answers to a stream, and a summary of them.
+type Answers = fn(&[u8]) -> Option<(String, String)>;
+
+fn reads(stream: &[u8]) -> Option<(String, String)> {
+    let found = answer_reads(stream)?;
+    Some((text(&found), summary(stream, &found)))
+}
+
+fn writes(stream: &[u8]) -> Option<(String, String)> {
+    let found = answer_writes(stream)?;
+    Some((text(&found), summary(stream, &found)))
+}
+
+fn watches(stream: &[u8]) -> Option<(String, String)> {
+    let found = answer_watches(stream)?;
+    let lines: usize = found.iter().map(|answer| answer.lines).sum();
+    let said = format!(
+        "{} cases, {} bytes; {lines} lines",
+        found.len(),
+        stream.len()
+    );
+    Some((shown_text(&found), said))
+}
 
 fn record(stream: Vec<u8>, answer: Answers, cases: &str, answers: &str) -> Result<String, String> {
-    let found = answer(&stream).ok_or("the cases are malformed")?;
+    let (got, said) = answer(&stream).ok_or("the cases are malformed")?;
     std::fs::write(cases, &stream).map_err(|e| format!("{cases}: {e}"))?;
-    std::fs::write(answers, text(&found)).map_err(|e| format!("{answers}: {e}"))?;
-    Ok(summary(&stream, &found))
+    std::fs::write(answers, got).map_err(|e| format!("{answers}: {e}"))?;
+    Ok(said)
 }
 
 fn check(answer: Answers, cases: &str, answers: &str) -> Result<String, String> {
     let stream = std::fs::read(cases).map_err(|e| format!("{cases}: {e}"))?;
     let expected = std::fs::read_to_string(answers).map_err(|e| format!("{answers}: {e}"))?;
-    let found = answer(&stream).ok_or("the cases are malformed")?;
-    let got = text(&found);
+    let (got, said) = answer(&stream).ok_or("the cases are malformed")?;
     if let Some(line) = got.lines().zip(expected.lines()).position(|(a, b)| a != b) {
         return Err(format!("case {line} differs"));
     }
     if got != expected {
         return Err(String::from("the number of cases differs"));
     }
-    Ok(format!("equal: {}", summary(&stream, &found)))
+    Ok(format!("equal: {said}"))
 }
 
 fn summary(stream: &[u8], found: &[Expected]) -> String {
