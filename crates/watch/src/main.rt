@@ -1,7 +1,7 @@
 // The watch program: a table, a clock and release sets on standard input, a line for opening and one for each tick on standard
 // output. It holds the table and one line.
 ghost use mathlib.Core.Path.{_≡_};
-ghost use Prim.Native.Nat.{_≤_, min};
+ghost use Prim.Native.Nat.{_≤_};
 ghost use lib.ListN.{length};
 use libc::STDIN_FILENO;
 use libc::STDOUT_FILENO;
@@ -23,7 +23,7 @@ fn room() -> [u8; 5061]
 
 // The smaller of two numbers.
 fn smaller(a: usize, b: usize) -> usize
-    ensures { λ r. ⌜ (r ≡ min a b) × (r ≤ a) × (r ≤ b) ⌝ }
+    ensures { λ r. ⌜ (r ≤ a) × (r ≤ b) ⌝ }
 {
     if a < b {
         return a;
@@ -35,19 +35,6 @@ fn smaller(a: usize, b: usize) -> usize
 fn fill(buf: &mut [u8], n: usize) -> usize {
     let k = smaller(n, buf.len());
     io::read_full(STDIN_FILENO, &mut buf[..k])
-}
-
-// Passes over the next n bytes of the input.
-fn skip(n: usize) {
-    let mut some = io::buffer();
-    let mut left = n;
-    while 0 < left {
-        let k = smaller(left, 4096);
-        if fill(&mut some, k) < k {
-            return;
-        }
-        left -= k;
-    }
 }
 
 // Writes a line.
@@ -101,15 +88,14 @@ fn watch(table: &[u8], clock: u32) {
     }
 }
 
-// The table's bytes, as many as there are of its length; then the clock, whose missing bytes stay 0.
+// The table's bytes, as many as there are of its length; then the clock, whose missing bytes stay 0. What a longer table has behind
+// its room is not passed over: the table is refused, and nothing of what follows is shown.
 fn main() {
     let mut two = [0u8; 2];
     io::read_full(STDIN_FILENO, &mut two);
     let length = lines::set_of(two) as usize;
     let mut table = room();
-    let held = smaller(length, 5061);
-    let n = fill(&mut table, held);
-    skip(length - held);
+    let n = fill(&mut table, length);
     let mut four = [0u8; 4];
     io::read_full(STDIN_FILENO, &mut four);
     let k = smaller(n, 5061);

@@ -6,7 +6,8 @@ use std::process::ExitCode;
 const USAGE: &str = "vectors read FILE_IN FILE_OUT     write cases and answers for the reader
 vectors write FILE_IN FILE_OUT    write cases and answers for the writer
 vectors verdict FILE_IN FILE_OUT  write cases and answers for the verdict and the report
-vectors check-read FILE_IN FILE_OUT, check-write .., check-verdict ..
+vectors watch FILE_IN FILE_OUT    write cases and answers for the watch program
+vectors check-read FILE_IN FILE_OUT, and so check-write, check-verdict, check-watch
                                   answer the cases anew and compare";
 
 const SEED: u64 = 1;
@@ -23,9 +24,13 @@ fn main() -> ExitCode {
             let files = verdict_cases(SEED);
             record(verdict_stream(&files), verdicts, cases, answers)
         }
+        ["watch", cases, answers] => {
+            record(read_stream(&watch_cases(SEED)), watches, cases, answers)
+        }
         ["check-read", cases, answers] => check(reads, cases, answers),
         ["check-write", cases, answers] => check(writes, cases, answers),
         ["check-verdict", cases, answers] => check(verdicts, cases, answers),
+        ["check-watch", cases, answers] => check(watches, cases, answers),
         _ => Err(String::from(USAGE)),
     };
     match done {
@@ -53,6 +58,13 @@ fn writes(stream: &[u8]) -> Option<(String, String)> {
 
 fn verdicts(stream: &[u8]) -> Option<(String, String)> {
     answer_verdicts(stream).map(|found| (verdict_text(&found), verdict_summary(&found)))
+}
+
+fn watches(stream: &[u8]) -> Option<(String, String)> {
+    let found = answer_watches(stream)?;
+    let lines: usize = found.iter().map(|answer| answer.lines).sum();
+    let said = format!("{} cases; {lines} lines", found.len());
+    Some((shown_text(&found), said))
 }
 
 fn record(stream: Vec<u8>, answer: Answers, cases: &str, answers: &str) -> Result<String, String> {

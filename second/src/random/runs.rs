@@ -65,12 +65,16 @@ pub fn run(r: &mut Random, most: usize) -> Run {
     run
 }
 
-/// The input of a run; at times damaged, cut short at any place, with a wrong
-/// length, or with a byte too many.
+/// The input of a run; at times damaged, too long a table, cut short at any
+/// place, with a wrong length, or with a byte too many.
 pub fn run_input(r: &mut Random, most: usize) -> Vec<u8> {
     let mut run = run(r, most);
     if r.one_in(8) {
         damage(r, &mut run.table);
+    }
+    if r.one_in(30) {
+        let length = r.pick(&[5_060, 5_061, 5_062, 9_000, 65_535]);
+        run.table.resize(length, r.byte());
     }
     let mut input = run.input();
     match r.below(16) {

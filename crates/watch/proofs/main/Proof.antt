@@ -20,20 +20,11 @@ cast-length c = search needs
 room-requires : tie.Need-room-requires
 room-requires c κs = search needs
 
-smaller-requires : tie.Need-smaller-requires
-smaller-requires c κs = search needs
-
 slice-aggregate-fill : tie.Need-slice-aggregate-fill
 slice-aggregate-fill c = search needs
 
 fill-requires : tie.Need-fill-requires
 fill-requires c κs = search needs
-
-sub-skip : tie.Need-sub-skip
-sub-skip c = search needs
-
-skip-requires : tie.Need-skip-requires
-skip-requires c κs = search needs
 
 slice-aggregate-read-full-2 : tie.Need-slice-aggregate-read-full-2
 slice-aggregate-read-full-2 c = search needs
@@ -41,8 +32,8 @@ slice-aggregate-read-full-2 c = search needs
 read-full-requires-2 : tie.Need-read-full-requires-2
 read-full-requires-2 c κs = search needs
 
-smaller-requires-2 : tie.Need-smaller-requires-2
-smaller-requires-2 c κs = search needs
+smaller-requires : tie.Need-smaller-requires
+smaller-requires c κs = search needs
 
 array-share-prefix-table : tie.Need-array-share-prefix-table
 array-share-prefix-table c = search needs
@@ -68,14 +59,11 @@ main-spec =
     set-of-requires
     cast-length
     room-requires
-    smaller-requires
     slice-aggregate-fill
     fill-requires
-    sub-skip
-    skip-requires
     slice-aggregate-read-full-2
     read-full-requires-2
-    smaller-requires-2
+    smaller-requires
     array-share-prefix-table
     slice-aggregate-watch
     clock-of-requires
