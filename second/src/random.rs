@@ -1,10 +1,12 @@
 //! A small seeded generator of random numbers, and of tables and damage.
 
 mod bytes;
+mod journals;
 mod states;
 mod tables;
 
 pub use bytes::*;
+pub use journals::*;
 pub use states::*;
 pub use tables::*;
 

@@ -6,7 +6,8 @@ use std::process::ExitCode;
 const USAGE: &str = "vectors read FILE_IN FILE_OUT     write cases and answers for the reader
 vectors write FILE_IN FILE_OUT    write cases and answers for the writer
 vectors verdict FILE_IN FILE_OUT  write cases and answers for the verdict and the report
-vectors check-read FILE_IN FILE_OUT, check-write .., check-verdict ..
+vectors journal FILE_IN FILE_OUT  write cases and answers for the judge
+vectors check-read FILE_IN FILE_OUT, check-write .., check-verdict .., check-journal ..
                                   answer the cases anew and compare";
 
 const SEED: u64 = 1;
@@ -23,9 +24,14 @@ fn main() -> ExitCode {
             let files = verdict_cases(SEED);
             record(verdict_stream(&files), verdicts, cases, answers)
         }
+        ["journal", cases, answers] => {
+            let found = journal_cases(SEED);
+            record(journal_stream(&found), journals, cases, answers)
+        }
         ["check-read", cases, answers] => check(reads, cases, answers),
         ["check-write", cases, answers] => check(writes, cases, answers),
         ["check-verdict", cases, answers] => check(verdicts, cases, answers),
+        ["check-journal", cases, answers] => check(journals, cases, answers),
         _ => Err(String::from(USAGE)),
     };
     match done {
@@ -53,6 +59,10 @@ fn writes(stream: &[u8]) -> Option<(String, String)> {
 
 fn verdicts(stream: &[u8]) -> Option<(String, String)> {
     answer_verdicts(stream).map(|found| (verdict_text(&found), verdict_summary(&found)))
+}
+
+fn journals(stream: &[u8]) -> Option<(String, String)> {
+    answer_journals(stream).map(|found| (journal_text(&found), journal_summary(&found)))
 }
 
 fn record(stream: Vec<u8>, answer: Answers, cases: &str, answers: &str) -> Result<String, String> {
