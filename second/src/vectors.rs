@@ -1,11 +1,13 @@
 //! Recorded vectors: streams of cases, and the answers in text.
 
+mod journals;
 mod read_cases;
 mod verdict_cases;
 mod verdicts;
 mod watch_cases;
 mod write_cases;
 
+pub use journals::*;
 pub use read_cases::read_cases;
 pub use verdict_cases::verdict_cases;
 pub use verdicts::*;

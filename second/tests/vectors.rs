@@ -112,3 +112,23 @@ fn cases_for_the_verdict() {
     let first = verdict_text(&answers[..2]);
     assert_eq!(first, "1 0 255 0 18 1653696668\n0 0 1 0 114 4255783245\n");
 }
+
+#[test]
+fn cases_for_the_judge() {
+    let cases = journal_cases(1);
+    let stream = journal_stream(&cases);
+    let answers = answer_journals(&stream).unwrap();
+    assert_eq!(answers.len(), cases.len());
+    assert!(stream.len() < 250_000 && cases.len() > 1_500);
+    for number in [0, 31, 33, 40, 41, 42, 44, 45, 46, 47] {
+        let count = answers.iter().filter(|a| a.number == number).count();
+        assert!(count > 25, "number {number}: {count}");
+    }
+    assert!(answers.iter().filter(|a| a.missed).count() > 100);
+    for ((file, journal), answer) in cases.iter().zip(&answers) {
+        assert_eq!(second::judge(file, journal), *answer);
+    }
+    assert_eq!(answer_journals(&stream[..stream.len() - 1]), None);
+    let first = journal_text(&answers[..2]);
+    assert_eq!(first, "0 0 0 0 0\n40 0 0 0 0\n");
+}

@@ -7,7 +7,8 @@ const USAGE: &str = "vectors read FILE_IN FILE_OUT     write cases and answers f
 vectors write FILE_IN FILE_OUT    write cases and answers for the writer
 vectors verdict FILE_IN FILE_OUT  write cases and answers for the verdict and the report
 vectors watch FILE_IN FILE_OUT    write cases and answers for the watch program
-vectors check-read FILE_IN FILE_OUT, and so check-write, check-verdict, check-watch
+vectors journal FILE_IN FILE_OUT  write cases and answers for the judge
+vectors check-read FILE_IN FILE_OUT, and so check-write, check-verdict, check-watch, check-journal
                                   answer the cases anew and compare";
 
 const SEED: u64 = 1;
@@ -27,10 +28,15 @@ fn main() -> ExitCode {
         ["watch", cases, answers] => {
             record(read_stream(&watch_cases(SEED)), watches, cases, answers)
         }
+        ["journal", cases, answers] => {
+            let found = journal_cases(SEED);
+            record(journal_stream(&found), journals, cases, answers)
+        }
         ["check-read", cases, answers] => check(reads, cases, answers),
         ["check-write", cases, answers] => check(writes, cases, answers),
         ["check-verdict", cases, answers] => check(verdicts, cases, answers),
         ["check-watch", cases, answers] => check(watches, cases, answers),
+        ["check-journal", cases, answers] => check(journals, cases, answers),
         _ => Err(String::from(USAGE)),
     };
     match done {
@@ -65,6 +71,10 @@ fn watches(stream: &[u8]) -> Option<(String, String)> {
     let lines: usize = found.iter().map(|answer| answer.lines).sum();
     let said = format!("{} cases; {lines} lines", found.len());
     Some((shown_text(&found), said))
+}
+
+fn journals(stream: &[u8]) -> Option<(String, String)> {
+    answer_journals(stream).map(|found| (journal_text(&found), journal_summary(&found)))
 }
 
 fn record(stream: Vec<u8>, answer: Answers, cases: &str, answers: &str) -> Result<String, String> {
