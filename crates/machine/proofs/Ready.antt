@@ -21,7 +21,7 @@ use Rattle.machine.specs.declared.State.{State}
 use Rattle.machine.specs.States.{activity, isLive, live, deadlineOf, deadline, remaining, wrap, ticksLeft, left}
 use Rattle.machine.specs.Steps.{clear, available, availableSets}
 use Rattle.machine.specs.Choosing.{isDone, isReady, inSets}
-use Rattle.machine.proofs.Behind.{all-same}
+use Rattle.fitness.proofs.Behind.{all-same}
 use Rattle.machine.proofs.Searching.{set-small, bit-set}
 
 -- one member more, as the code `x | (1 << j)` says it

@@ -13,7 +13,6 @@ use crate::Activity;
 use crate::Chosen;
 use crate::State;
 use crate::TaskState;
-use crate::fitting;
 use table::Table;
 
 // One less, not below 0.
@@ -208,7 +207,7 @@ fn ends(s: TaskState, remaining: &[u32; 256], i: usize) -> bool
 {
     let a = s.activity;
     if is_live(a) {
-        return fitting::nothing_left(remaining, i);
+        return fitness::nothing_left(remaining, i);
     }
     false
 }
