@@ -1,4 +1,4 @@
-/* The C face from C: table A of document 01 is read, written back, judged and reported. */
+/* The C face from C: table A of document 01 is read, written back, judged, reported, opened and run. */
 #include "milltundra.h"
 #include <stdio.h>
 #include <string.h>
@@ -17,6 +17,37 @@ static const char text[] =
 static int failed(const char *what) {
     fprintf(stderr, "the C face from C: %s\n", what);
     return 1;
+}
+
+static int ran(const struct mt_tick_answer *t, int place, uint8_t task, uint8_t vertex) {
+    return t->ran[place].task == task && t->ran[place].vertex == vertex;
+}
+
+/* Examples P9 and P10: both tasks are released at clock 0; task 1 is named again too soon. */
+static int runs(void) {
+    struct mt_open_answer o = mt_open(a, sizeof a, 0);
+    if (o.number != MT_DONE || o.task != MT_NO_TASK || o.place != 0 || o.state.stopped != 0 || o.state.clock != 0)
+        return failed("table A is not opened");
+    struct mt_tick_answer t = mt_tick(a, sizeof a, o.state, 3);
+    for (int clock = 1; clock < 5; clock++) {
+        if (t.number != MT_DONE || !ran(&t, 2, MT_NO_TASK, MT_NO_TASK) || t.state.clock != (uint32_t)clock)
+            return failed("a tick of table A is refused");
+        if (clock <= 2 && (!ran(&t, 0, 1, 0) || !ran(&t, 1, 1, 1)))
+            return failed("task 1 does not run first");
+        if (clock > 2 && (!ran(&t, 0, 0, 0) || !ran(&t, 1, MT_NO_TASK, MT_NO_TASK)))
+            return failed("task 0 does not run next");
+        if (t.finished != (clock == 2 ? 2 : 0))
+            return failed("task 1 does not finish in its second tick");
+        t = mt_tick(a, sizeof a, t.state, 0);
+    }
+    struct mt_tick_answer early = mt_tick(a, sizeof a, t.state, 2);
+    if (early.number != MT_EARLY || early.task != 1 || early.state.clock != 5 || early.state.tasks[1].wait != t.state.tasks[1].wait)
+        return failed("task 1 is released too soon");
+    t.state.at = 1;
+    early = mt_tick(a, sizeof a, t.state, 0);
+    if (early.number != MT_UNFIT || early.task != MT_NO_TASK || early.state.at != 1)
+        return failed("a running state at a task is not refused");
+    return 0;
 }
 
 int main(void) {
@@ -57,6 +88,8 @@ int main(void) {
         return failed("a report that does not fit is written");
     if (mt_report(a, sizeof a, report, sizeof report) != length || memcmp(report, text, length) != 0 || report[length] != 0xA5)
         return failed("the report on table A is wrong");
-    puts("the C face from C: table A is read, written back, judged and reported");
+    if (runs() != 0)
+        return 1;
+    puts("the C face from C: table A is read, written back, judged, reported, opened and run");
     return 0;
 }

@@ -28,7 +28,16 @@ enum {
     MT_LONG_CHAIN = 21  /* no margin is negative but some len exceeds its D; by a theorem this never comes */
 };
 
-/* The task of an answer that names none. */
+/* A tick's numbers, besides 0 and those of reading. */
+enum {
+    MT_UNFIT = 30,    /* the state does not fit the table */
+    MT_NO_SUCH = 31,  /* a release bit at or above n, lowest named */
+    MT_STOPPED = 32,  /* the state is stopped */
+    MT_EARLY = 33,    /* a named task with a wait above 0, lowest named */
+    MT_MISSED = 34    /* a live job's deadline is reached, lowest task; the state is stopped there */
+};
+
+/* The task of an answer that names none, and both numbers of an unused place of a run list. */
 enum { MT_NO_TASK = 255 };
 
 /* The largest file in bytes. */
@@ -75,6 +84,48 @@ struct mt_verdict_answer {
     int64_t margin;
 };
 
+/* A task of a state: `live` is 0 for idle or 1; an idle task's deadline is 0. */
+struct mt_task_state {
+    uint8_t live;
+    uint32_t deadline;
+    uint32_t wait;
+};
+
+/* A state of the machine: `stopped` is 0 for running or 1, and `at` the task at which it is stopped, 0 while it runs; what remains
+   of each vertex stands at sixteen times task plus vertex. Any numbers may stand in it: one that is no state is MT_UNFIT. */
+struct mt_state {
+    uint32_t clock;
+    uint8_t stopped;
+    uint8_t at;
+    struct mt_task_state tasks[16];
+    uint32_t remaining[256];
+};
+
+/* Opening's number and place are reading's, its task is MT_NO_TASK. */
+struct mt_open_answer {
+    uint8_t number;
+    uint8_t task;
+    uint64_t place;
+    struct mt_state state;
+};
+
+/* A vertex that ran. */
+struct mt_pair {
+    uint8_t task;
+    uint8_t vertex;
+};
+
+/* A tick's number, the task that it names, reading's place (otherwise 0), the vertices that ran in rank order, the set of tasks
+   finished (bit i is task i), and the next state. A refusal gives the same state back, and nothing ran. */
+struct mt_tick_answer {
+    uint8_t number;
+    uint8_t task;
+    uint64_t place;
+    struct mt_pair ran[8];
+    uint16_t finished;
+    struct mt_state state;
+};
+
 /* Reads a table file. */
 struct mt_read_answer mt_read(const uint8_t *bytes, size_t count);
 
@@ -87,5 +138,11 @@ struct mt_verdict_answer mt_verdict(const uint8_t *bytes, size_t count);
 /* The length of the report on a table file. Its text is written to the front of the buffer if it fits there, and the rest is left;
    nothing is written otherwise. */
 uint64_t mt_report(const uint8_t *bytes, size_t count, uint8_t *buffer, size_t room);
+
+/* Opens the machine on a table file at any clock: running with all tasks idle, or stopped at MT_NO_TASK where reading refuses. */
+struct mt_open_answer mt_open(const uint8_t *bytes, size_t count, uint32_t clock);
+
+/* One tick of the machine; bit i of the release set names task i. */
+struct mt_tick_answer mt_tick(const uint8_t *bytes, size_t count, struct mt_state state, uint16_t releases);
 
 #endif

@@ -1,4 +1,8 @@
-//! Tables of the sizes that are measured.
+//! Tables of the sizes that are measured, and runs of them.
+
+pub mod plain;
+pub mod plain_check;
+pub mod ticking;
 
 use second::random::{random_edges, ticks, Random};
 use second::table::MOST_TICKS;

@@ -1,6 +1,7 @@
 //! The functions and structs of include/milltundra.h, with safe functions over them. Nothing checks these
 //! declarations against the library but the comparison itself.
 
+use second::flat::{FlatOpened, FlatState, FlatTicked};
 use second::table::{ENTRIES, ROW};
 
 /// `struct mt_task`
@@ -50,18 +51,70 @@ pub struct VerdictAnswer {
     pub margin: i64,
 }
 
+/// `struct mt_task_state`
+#[repr(C)]
+#[derive(Clone, Copy, PartialEq, Eq, Debug)]
+pub struct TaskState {
+    pub live: u8,
+    pub deadline: u32,
+    pub wait: u32,
+}
+
+/// `struct mt_state`
+#[repr(C)]
+#[derive(Clone, Copy, PartialEq, Eq, Debug)]
+pub struct State {
+    pub clock: u32,
+    pub stopped: u8,
+    pub at: u8,
+    pub tasks: [TaskState; ENTRIES],
+    pub remaining: [u32; ROW],
+}
+
+/// `struct mt_open_answer`
+#[repr(C)]
+#[derive(Clone, Copy, PartialEq, Eq, Debug)]
+pub struct OpenAnswer {
+    pub number: u8,
+    pub task: u8,
+    pub place: u64,
+    pub state: State,
+}
+
+/// `struct mt_pair`
+#[repr(C)]
+#[derive(Clone, Copy, PartialEq, Eq, Debug)]
+pub struct Pair {
+    pub task: u8,
+    pub vertex: u8,
+}
+
+/// `struct mt_tick_answer`
+#[repr(C)]
+#[derive(Clone, Copy, PartialEq, Eq, Debug)]
+pub struct TickAnswer {
+    pub number: u8,
+    pub task: u8,
+    pub place: u64,
+    pub ran: [Pair; 8],
+    pub finished: u16,
+    pub state: State,
+}
+
 /// `MT_REPORT_MOST`: a buffer of this many bytes holds every report.
 pub const REPORT_MOST: usize = 1312;
 
 /// The functions themselves, for measurements.
 pub mod entry {
-    use super::{ReadAnswer, Table, VerdictAnswer, WriteAnswer};
+    use super::{OpenAnswer, ReadAnswer, State, Table, TickAnswer, VerdictAnswer, WriteAnswer};
 
     extern "C" {
         pub fn mt_read(bytes: *const u8, count: usize) -> ReadAnswer;
         pub fn mt_write(table: Table, buffer: *mut u8, count: usize) -> WriteAnswer;
         pub fn mt_verdict(bytes: *const u8, count: usize) -> VerdictAnswer;
         pub fn mt_report(bytes: *const u8, count: usize, buffer: *mut u8, room: usize) -> u64;
+        pub fn mt_open(bytes: *const u8, count: usize, clock: u32) -> OpenAnswer;
+        pub fn mt_tick(bytes: *const u8, count: usize, state: State, releases: u16) -> TickAnswer;
     }
 }
 
@@ -92,6 +145,16 @@ pub fn report(bytes: &[u8], buffer: &mut [u8]) -> u64 {
     }
 }
 
+pub fn open(bytes: &[u8], clock: u32) -> OpenAnswer {
+    // Safe: as for `read`.
+    unsafe { entry::mt_open(bytes.as_ptr(), bytes.len(), clock) }
+}
+
+pub fn tick(bytes: &[u8], state: State, releases: u16) -> TickAnswer {
+    // Safe: as for `read`, and any state gets an answer.
+    unsafe { entry::mt_tick(bytes.as_ptr(), bytes.len(), state, releases) }
+}
+
 impl From<&second::Table> for Table {
     fn from(table: &second::Table) -> Table {
         Table {
@@ -104,6 +167,46 @@ impl From<&second::Table> for Table {
                 succ: task.succ,
             }),
             costs: table.costs,
+        }
+    }
+}
+
+impl From<&FlatState> for State {
+    fn from(flat: &FlatState) -> State {
+        State {
+            clock: flat.clock,
+            stopped: flat.stopped,
+            at: flat.at,
+            tasks: flat.tasks.map(|task| TaskState {
+                live: task.live,
+                deadline: task.deadline,
+                wait: task.wait,
+            }),
+            remaining: flat.remaining,
+        }
+    }
+}
+
+impl From<&FlatOpened> for OpenAnswer {
+    fn from(opened: &FlatOpened) -> OpenAnswer {
+        OpenAnswer {
+            number: opened.number,
+            task: opened.task,
+            place: opened.place as u64,
+            state: State::from(&opened.state),
+        }
+    }
+}
+
+impl From<&FlatTicked> for TickAnswer {
+    fn from(ticked: &FlatTicked) -> TickAnswer {
+        TickAnswer {
+            number: ticked.number,
+            task: ticked.task,
+            place: ticked.place as u64,
+            ran: ticked.ran.map(|(task, vertex)| Pair { task, vertex }),
+            finished: ticked.finished,
+            state: State::from(&ticked.state),
         }
     }
 }

@@ -3,14 +3,21 @@
 pub mod comparison;
 pub mod face;
 pub mod judging;
+pub mod opening;
 pub mod reading;
 pub mod reporting;
+pub mod running;
+pub mod telling;
+pub mod ticking;
 pub mod writing;
 
 /// Every comparison; a new one is a line here.
-pub const COMPARISONS: [comparison::Comparison; 4] = [
+pub const COMPARISONS: [comparison::Comparison; 7] = [
     reading::READING,
     writing::WRITING,
     judging::JUDGING,
     reporting::REPORTING,
+    opening::OPENING,
+    ticking::TICKING,
+    running::RUNNING,
 ];

@@ -1,11 +1,15 @@
 //! A small seeded generator of random numbers, and of tables and damage.
 
 mod bytes;
+mod flat;
+mod journals;
 mod runs;
 mod states;
 mod tables;
 
 pub use bytes::*;
+pub use flat::*;
+pub use journals::*;
 pub use runs::*;
 pub use states::*;
 pub use tables::*;

@@ -1,10 +1,16 @@
 //! Recorded vectors: streams of cases, and the answers in text.
 
+mod journals;
 mod read_cases;
+mod verdict_cases;
+mod verdicts;
 mod watch_cases;
 mod write_cases;
 
+pub use journals::*;
 pub use read_cases::read_cases;
+pub use verdict_cases::verdict_cases;
+pub use verdicts::*;
 pub use watch_cases::watch_cases;
 pub use write_cases::write_cases;
 

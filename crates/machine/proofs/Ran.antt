@@ -1,6 +1,6 @@
 -- One tick less for each vertex of a list, one after the other: what is left to do from here gives what all of it gives from the start.
 use mathlib.Core.Path.{_≡_, refl, sym, ap, _∙_}
-use mathlib.Core.Bool.{Bool, false}
+use mathlib.Core.Bool.{Bool, true, false}
 use mathlib.Core.List.{List, [], _∷_}
 use Prim.Native.Nat.{ℕ, suc, _+_, _-_, _<_}
 use native.Mathlib.Omega.{arith}
@@ -8,66 +8,65 @@ use native.Mathlib.Numerals.{add-one}
 use native.Mathlib.Decide.{ℕ-discrete}
 use lib.ListN.{length, getD, set, length-set, drop}
 use lib.Seq.{ext-getD, getD-set-same, getD-set-other, drop-cons, drop-length}
-use Rattle.graph.specs.Words.{pick, row, isIn, Distinct}
+use Rattle.graph.specs.Words.{pick, row, isIn}
 use Rattle.graph.proofs.Facts.{length-row, row-at, first-in, other-in}
 
--- what remains of vertex k once each of the list has run
-unfoldable pub lessIn : List ℕ → List ℕ → ℕ → ℕ
-lessIn l remaining k = pick (isIn k l) (getD remaining k 0 - 1) (getD remaining k 0)
+-- what remains of vertex k once each of the list has run: one tick less than before
+unfoldable pub lessIn : List ℕ → List ℕ → List ℕ → ℕ → ℕ
+lessIn l before now k = pick (isIn k l) (getD before k 0 - 1) (getD now k 0)
 
-pub less-none : (remaining : List ℕ) (k : ℕ) → lessIn [] remaining k ≡ getD remaining k 0
+less-none : (before now : List ℕ) (k : ℕ) → lessIn [] before now k ≡ getD now k 0
 unfolding lessIn isIn
-less-none remaining k = refl
+less-none before now k = refl
 
-pub less-one : (x : ℕ) (l remaining : List ℕ) → isIn x l ≡ false → x < length remaining
-    → (k : ℕ) → lessIn l (set remaining x (getD remaining x 0 - 1)) k ≡ lessIn (x ∷ l) remaining k
-unfolding lessIn
-less-one x l remaining out b k = elim (ℕ-discrete k x) [
-  | yes e ↦ at k e
-  | no d ↦
-      ap (λ (y : ℕ). pick (isIn k l) (y - 1) y) (getD-set-other remaining x k (getD remaining x 0 - 1) 0 d)
-      ∙ ap (λ (c : Bool). pick c (getD remaining k 0 - 1) (getD remaining k 0)) (sym (other-in k x l d))
-]
-  where
-    here : pick (isIn x l) (getD (set remaining x (getD remaining x 0 - 1)) x 0 - 1) (getD (set remaining x (getD remaining x 0 - 1)) x 0)
-        ≡ pick (isIn x (x ∷ l)) (getD remaining x 0 - 1) (getD remaining x 0)
-    here =
-        ap (λ (c : Bool). pick c (getD (set remaining x (getD remaining x 0 - 1)) x 0 - 1) (getD (set remaining x (getD remaining x 0 - 1)) x 0)) out
-        ∙ getD-set-same remaining x (getD remaining x 0 - 1) 0 b
-        ∙ sym (ap (λ (c : Bool). pick c (getD remaining x 0 - 1) (getD remaining x 0)) (first-in x l))
+module _ (x : ℕ) (l before now : List ℕ) (b : x < length now) where
+  less-one : (k : ℕ) → lessIn l before (set now x (getD before x 0 - 1)) k ≡ lessIn (x ∷ l) before now k
+  unfolding lessIn
+  less-one k = elim (ℕ-discrete k x) [
+    | yes e ↦ at k e
+    | no d ↦
+        ap (λ (y : ℕ). pick (isIn k l) (getD before k 0 - 1) y) (getD-set-other now x k (getD before x 0 - 1) 0 d)
+        ∙ ap (λ (c : Bool). pick c (getD before k 0 - 1) (getD now k 0)) (sym (other-in k x l d))
+  ]
+    where
+      either : (c : Bool) (y : ℕ) → pick c y y ≡ y
+      either true y = refl
+      either false y = refl
 
-    at : (k : ℕ) → k ≡ x → pick (isIn k l) (getD (set remaining x (getD remaining x 0 - 1)) k 0 - 1) (getD (set remaining x (getD remaining x 0 - 1)) k 0)
-        ≡ pick (isIn k (x ∷ l)) (getD remaining k 0 - 1) (getD remaining k 0)
-    at k e = rw e here
+      here : pick (isIn x l) (getD before x 0 - 1) (getD (set now x (getD before x 0 - 1)) x 0) ≡ pick (isIn x (x ∷ l)) (getD before x 0 - 1) (getD now x 0)
+      here =
+          ap (λ (y : ℕ). pick (isIn x l) (getD before x 0 - 1) y) (getD-set-same now x (getD before x 0 - 1) 0 b)
+          ∙ either (isIn x l) (getD before x 0 - 1)
+          ∙ sym (ap (λ (c : Bool). pick c (getD before x 0 - 1) (getD now x 0)) (first-in x l))
+
+      at : (k : ℕ) → k ≡ x → pick (isIn k l) (getD before k 0 - 1) (getD (set now x (getD before x 0 - 1)) k 0) ≡ pick (isIn k (x ∷ l)) (getD before k 0 - 1) (getD now k 0)
+      at k e = rw e here
 
 -- the first j of the list have run
 pub record RanTo (l before : List ℕ) (j : ℕ) (now : List ℕ) : Type 0 where
   pub size : length now ≡ 256
-  pub apart : Distinct (drop j l)
-  pub same : (k : ℕ) → lessIn (drop j l) now k ≡ lessIn l before k
+  pub same : (k : ℕ) → lessIn (drop j l) before now k ≡ lessIn l before before k
 
-pub ran-none : (l before : List ℕ) → length before ≡ 256 → Distinct l → RanTo l before 0 before
-ran-none l before e d = record { size = e; apart = d; same = λ k. refl }
+pub ran-none : (l before : List ℕ) → length before ≡ 256 → RanTo l before 0 before
+ran-none l before e = record { size = e; same = λ k. refl }
 
 module _ (l before : List ℕ) (j : ℕ) (now : List ℕ) (r : RanTo l before j now) where
-  pub ran-one : (x y : ℕ) → j < length l → x ≡ getD l j 0 → x < 256 → y ≡ getD now x 0 - 1 → RanTo l before (j + 1) (set now x y)
-  unfolding Distinct
+  pub ran-one : (x y : ℕ) → j < length l → x ≡ getD l j 0 → x < 256 → y ≡ getD before x 0 - 1 → RanTo l before (j + 1) (set now x y)
   ran-one x y b e small q =
       let s : drop j l ≡ x ∷ drop (suc j) l = drop-cons l j 0 b ∙ ap (λ (z : ℕ). z ∷ drop (suc j) l) (sym e) in
-      let d : Distinct (x ∷ drop (suc j) l) = rw s at (r .apart) in
       rw add-one (record {
         size = length-set now x y ∙ r .size;
-        apart = d .1;
         same = λ k.
-            ap (λ (z : ℕ). lessIn (drop (suc j) l) (set now x z) k) q
-            ∙ less-one x (drop (suc j) l) now (d .0) (omega (arith, r .size)) k
-            ∙ ap (λ (m : List ℕ). lessIn m now k) (sym s)
+            ap (λ (z : ℕ). lessIn (drop (suc j) l) before (set now x z) k) q
+            ∙ less-one x (drop (suc j) l) before now (omega (arith, r .size)) k
+            ∙ ap (λ (m : List ℕ). lessIn m before now k) (sym s)
             ∙ r .same k;
       })
 
-  pub ran-all : j ≡ length l → now ≡ row 256 (lessIn l before)
-  ran-all q = let e : drop j l ≡ [] = ap (λ (n : ℕ). drop n l) q ∙ drop-length l in
-      ext-getD 0 now (row 256 (lessIn l before)) (r .size ∙ sym (length-row 256 (lessIn l before)))
+  pub ran-all : j ≡ length l → now ≡ row 256 (lessIn l before before)
+  ran-all q =
+      let e : drop j l ≡ [] = ap (λ (n : ℕ). drop n l) q ∙ drop-length l in
+      ext-getD 0 now (row 256 (lessIn l before before)) (r .size ∙ sym (length-row 256 (lessIn l before before)))
       (λ k b.
       let h : k < 256 = omega (arith, r .size) in
-      sym (less-none now k) ∙ ap (λ (m : List ℕ). lessIn m now k) (sym e) ∙ r .same k ∙ sym (row-at 256 (lessIn l before) k 0 h))
+      sym (less-none before now k) ∙ ap (λ (m : List ℕ). lessIn m before now k) (sym e) ∙ r .same k ∙ sym (row-at 256 (lessIn l before before) k 0 h))

@@ -6,24 +6,23 @@ use Prim.Native.Nat.{ℕ, zero, suc, _+_, _-_, _*_, _/_, _%_, _^_, _≤_, _<_}
 use native.Mathlib.Omega.{arith}
 use native.Mathlib.Numerals.{add-one}
 use native.Mathlib.Decide.{ℕ-discrete, decLt, decLe}
-use lib.ListN.{length, getD, set, replicate, length-set}
-use lib.Seq.{getD-set-same, getD-set-other}
+use lib.ListN.{length, getD}
 use lib.Dec.{ltb, eqb}
-use lib.Bits.{bitAnd, bitOr, or-lt}
+use lib.Bits.{bitAnd, bitOr, or-lt, and-le-r}
 use borrow.Author.Tests.{lt-ltb, le-ltb, eq-eqb, ne-eqb}
-use Rattle.graph.specs.Words.{bit, all}
+use Rattle.graph.specs.Words.{pick, bit, sum, all, setOf}
 use Rattle.graph.specs.Graph.{edge}
-use Rattle.graph.proofs.Facts.{off-when}
-use Rattle.graph.proofs.Bits.{bit-or, bit-zero, bit-one, one-shl}
+use Rattle.graph.proofs.Facts.{sum-same, row-at, past-end}
+use Rattle.graph.proofs.Bits.{bit-or, bit-zero, bit-one, bit-ext, one-shl}
 use Rattle.graph.proofs.Members.{bit-without}
-use Rattle.table.specs.declared.Task.{Task}
 use Rattle.table.specs.declared.Table.{Table}
-use Rattle.table.specs.Memory.{zeroTask, noSucc, task, vertices, succ, edgeIn}
-use Rattle.table.specs.Good.{GoodTable}
+use Rattle.table.specs.Memory.{vertices, succ, edgeIn}
 use Rattle.machine.specs.declared.State.{State}
 use Rattle.machine.specs.States.{activity, isLive, live, deadlineOf, deadline, remaining, wrap, ticksLeft, left}
-use Rattle.machine.specs.Steps.{clear, available}
+use Rattle.machine.specs.Steps.{clear, available, availableSets}
 use Rattle.machine.specs.Choosing.{isDone, isReady, inSets}
+use Rattle.fitness.proofs.Behind.{all-same}
+use Rattle.machine.proofs.Searching.{set-small, bit-set}
 
 -- one member more, as the code `x | (1 << j)` says it
 one-more : (x j k : ℕ) → j < 16 → bit (bitOr x (1 * 2 ^ j % 65536)) k ≡ (bit x k || eqb k j)
@@ -47,10 +46,10 @@ one-below p u k = elim (ℕ-discrete k u) [
       | no l ↦ rw (f, le-ltb k u (omega arith), le-ltb k (u + 1) (omega arith)) refl
     ]
 
-module _ (succs rest : List ℕ) (i : ℕ) where
-  -- an edge from u does not hold w back
+module _ (succs : List ℕ) (v : ℕ) (rest : List ℕ) (i : ℕ) where
+  -- an edge from u, one of the first v, does not hold w back
   abbrev lets : ℕ → ℕ → Bool
-  lets w u = not (edge succs u w) || isDone rest i u
+  lets w u = not (ltb u v && edge succs u w) || isDone rest i u
 
   -- when the first u vertices were seen: those with something remaining, and all to which they lead
   pub record Seen (u unfinished led : ℕ) : Type 0 where
@@ -73,23 +72,29 @@ module _ (succs rest : List ℕ) (i : ℕ) where
     unfolding all
     all-next w = ap (λ (n : ℕ). all n (lets w)) (add-one u)
 
-    pub seen-open : getD succs u 0 < 2 ^ 16 → isDone rest i u ≡ false → Seen (u + 1) (bitOr unfinished (1 * 2 ^ u % 65536)) (bitOr led (getD succs u 0))
+    -- x are its successors, none where it is not used
+    pub seen-open : (x : ℕ) → x ≡ pick (ltb u v) (getD succs u 0) 0 → x < 2 ^ 16 → isDone rest i u ≡ false
+        → Seen (u + 1) (bitOr unfinished (1 * 2 ^ u % 65536)) (bitOr led x)
     unfolding edge
-    seen-open b e = record {
+    seen-open x q b e = record {
       below = omega arith;
-      small = or-lt 16 led (getD succs u 0) (s .small) b;
+      small = or-lt 16 led x (s .small) b;
       own = λ k.
           one-more unfinished u k h
           ∙ ap (λ (d : Bool). d || eqb k u) (s .own k)
           ∙ ap (λ (d : Bool). (ltb k u && not (isDone rest i k)) || d) (sym (yes-and (eqb k u) (isDone rest i u) e))
           ∙ one-below (λ x. not (isDone rest i x)) u k;
       free = λ w.
-          ap not (bit-or led (getD succs u 0) w)
-          ∙ neither (bit led w) (bit (getD succs u 0) w) (isDone rest i u) e
+          ap not (bit-or led x w ∙ ap (λ (n : ℕ). bit led w || bit n w) q ∙ ap (λ (c : Bool). bit led w || c) (led-by (ltb u v) w))
+          ∙ neither (bit led w) (ltb u v && bit (getD succs u 0) w) (isDone rest i u) e
           ∙ ap (λ (d : Bool). d && lets w u) (s .free w)
           ∙ sym (all-next w);
     }
       where
+        led-by : (c : Bool) (w : ℕ) → bit (pick c (getD succs u 0) 0) w ≡ (c && bit (getD succs u 0) w)
+        led-by true w = refl
+        led-by false w = bit-zero w
+
         yes-and : (a d : Bool) → d ≡ false → (a && not d) ≡ a
         yes-and true d e = ap not e
         yes-and false d e = refl
@@ -107,7 +112,7 @@ module _ (succs rest : List ℕ) (i : ℕ) where
           s .own k
           ∙ no-more (ltb k u && not (isDone rest i k)) (eqb k u) (isDone rest i u) e
           ∙ one-below (λ x. not (isDone rest i x)) u k;
-      free = λ w. s .free w ∙ lets-all (all u (lets w)) (edge succs u w) (isDone rest i u) e ∙ sym (all-next w);
+      free = λ w. s .free w ∙ lets-all (all u (lets w)) (ltb u v && edge succs u w) (isDone rest i u) e ∙ sym (all-next w);
     }
       where
         no-more : (a c d : Bool) → d ≡ true → a ≡ (a || (c && not d))
@@ -121,14 +126,18 @@ module _ (succs rest : List ℕ) (i : ℕ) where
         lets-all false c d e = refl
 
   -- when all were seen, those that nothing leads to are ready
-  pub seen-all : (unfinished led : ℕ) → Seen 16 unfinished led → (u : ℕ) → u < 16 → bit (bitAnd unfinished (65535 - led)) u ≡ isReady succs rest i u
+  pub seen-all : (unfinished led : ℕ) → Seen 16 unfinished led → bitAnd unfinished (65535 - led) ≡ setOf 16 (isReady succs v rest i)
   unfolding isReady
-  seen-all unfinished led s u h =
+  seen-all unfinished led s =
+      let n = and-le-r unfinished (65535 - led) in
+      bit-ext 16 (bitAnd unfinished (65535 - led)) (setOf 16 (isReady succs v rest i)) (omega arith) (set-small (isReady succs v rest i) 16)
+      (λ u h.
       bit-without unfinished led (s .small) u h
       ∙ ap (λ (b : Bool). b && not (bit led u)) (s .own u ∙ ap (λ (b : Bool). b && not (isDone rest i u)) (lt-ltb u 16 h))
       ∙ ap (λ (b : Bool). not (isDone rest i u) && b) (s .free u)
+      ∙ sym (bit-set 16 (isReady succs v rest i) u h))
 
--- ---- of a good table it is all the same whether the first v vertices are asked or all sixteen
+-- ---- it is all the same whether the first v vertices are asked or all sixteen, those from v on leading nowhere
 all-upto : (v n : ℕ) (p : ℕ → Bool) → v ≤ n → ((j : ℕ) → v ≤ j → j < n → p j ≡ true) → all n p ≡ all v p
 unfolding all
 all-upto v zero p h k = let z : v ≡ 0 = omega arith in rw z refl
@@ -141,72 +150,56 @@ all-upto v (suc n) p h k = elim (decLe v n) [
     more true b e = e
     more false b e = refl
 
-module _ (t : Table) (good : GoodTable t) (i : ℕ) (b : i < 16) where
-  v-most : vertices t i ≤ 16
-  unfolding vertices zeroTask
-  v-most = elim (decLt i (t .n)) [
-    | yes l ↦ good .each i l .v-high
-    | no l ↦ let e : task t i .v ≡ 0 = ap (λ (x : Task). x .v) (good .no-task i (omega arith) b) in omega arith
-  ]
+all-narrow : (v : ℕ) (e d : ℕ → Bool) → ((w : ℕ) → 16 ≤ w → e w ≡ false) → all v (λ w. not (e w) || d w) ≡ all 16 (λ w. not (ltb w v && e w) || d w)
+all-narrow v e d past = elim (decLe v 16) [
+  | yes h ↦
+      all-same v _ _ (λ w b. ap (λ (c : Bool). not (c && e w) || d w) (sym (lt-ltb w v b)))
+      ∙ sym (all-upto v 16 _ h (λ w a b. ap (λ (c : Bool). not (c && e w) || d w) (le-ltb w v a)))
+  | no h ↦
+      all-upto 16 v _ (omega arith) (λ w a b. ap (λ (c : Bool). not c || d w) (past w a))
+      ∙ all-same 16 _ _ (λ w b. ap (λ (c : Bool). not (c && e w) || d w) (sym (lt-ltb w v (omega arith))))
+]
 
-  from-below : (u w : ℕ) → vertices t i ≤ u → edgeIn t i u w ≡ false
-  unfolding edgeIn edge succ zeroTask noSucc
-  from-below u w h = elim (decLt i (t .n)) [
-    | yes l ↦ off-when _ (λ e. let k = good .each i l .ends u w e .0 in omega arith)
-    | no l ↦
-        ap (λ (x : Task). bit (getD (x .succ) u 0) w) (good .no-task i (omega arith) b)
-        ∙ ap (λ (n : ℕ). bit n w) (zeros 16 u)
-        ∙ bit-zero w
-  ]
-    where
-      zeros : (n k : ℕ) → _≡_ {A = ℕ} (getD (replicate n 0) k 0) 0
-      zeros zero k = refl
-      zeros (suc n) zero = refl
-      zeros (suc n) (suc k) = zeros n k
+module _ (t : Table) (i : ℕ) (sixteen : length (succ t i) ≡ 16) where
+  clear-is : (st : State) (u : ℕ) → clear t st i u ≡ all 16 (λ w. not (ltb w (vertices t i) && edge (succ t i) w u) || isDone (st .remaining) i w)
+  unfolding clear edgeIn edge isDone remaining
+  clear-is st u = all-narrow (vertices t i) (λ w. bit (getD (succ t i) w 0) u) (λ w. eqb (getD (st .remaining) (16 * i + w) 0) 0)
+      (λ w h. ap (λ (n : ℕ). bit n u) (past-end (succ t i) w 0 (omega arith)) ∙ bit-zero u)
 
-  clear-is : (st : State) (u : ℕ) → clear t st i u ≡ all 16 (λ w. not (edge (succ t i) w u) || isDone (st .remaining) i w)
-  unfolding clear edgeIn isDone remaining
-  clear-is st u = sym (all-upto (vertices t i) 16 _ v-most (λ w h k. ap (λ (c : Bool). not c || isDone (st .remaining) i w) (from-below w u h)))
-
-  pub available-in : (st : State) (k : ℕ) → k / 16 ≡ i → available t st k ≡ (isLive (activity st i) && isReady (succ t i) (st .remaining) i (k % 16))
+  available-in : (st : State) (u : ℕ) → u < 16 → available t st (16 * i + u) ≡ (isLive (activity st i) && isReady (succ t i) (vertices t i) (st .remaining) i u)
   unfolding available live isReady isDone remaining
-  available-in st k e =
-      ap (λ (j : ℕ). live st j && ltb 0 (remaining st j (k % 16)) && clear t st j (k % 16)) e
-      ∙ ap (λ (c : Bool). live st i && ltb 0 (remaining st i (k % 16)) && c) (clear-is st (k % 16))
-      ∙ apart (live st i) (getD (st .remaining) (16 * i + k % 16) 0) _
+  available-in st u h =
+      let e : (16 * i + u) / 16 ≡ i = omega arith in
+      let f : (16 * i + u) % 16 ≡ u = omega arith in
+      ap (λ (j : ℕ). live st j && ltb 0 (remaining st j ((16 * i + u) % 16)) && clear t st j ((16 * i + u) % 16)) e
+      ∙ ap (λ (w : ℕ). live st i && ltb 0 (remaining st i w) && clear t st i w) f
+      ∙ ap (λ (c : Bool). live st i && ltb 0 (remaining st i u) && c) (clear-is st u)
+      ∙ apart (live st i) (getD (st .remaining) (16 * i + u) 0) _
     where
       apart : (a : Bool) (n : ℕ) (c : Bool) → (a && ltb 0 n && c) ≡ (a && (not (eqb n 0) && c))
       apart true zero c = refl
       apart true (suc n) c = ap (λ (d : Bool). d && c) (lt-ltb 0 (suc n) (omega arith) ∙ sym (ap not (ne-eqb (suc n) 0 (λ z. omega arith))))
       apart false n c = refl
 
--- ---- the sets of all tasks
-module _ (t : Table) (st : State) where
-  -- the first i tasks have their available vertices
-  pub record Gathered (i : ℕ) (sets : List ℕ) : Type 0 where
-    pub below : i ≤ 16
-    pub long : length sets ≡ 16
-    pub same : (k : ℕ) → k / 16 < i → inSets sets k ≡ available t st k
+  -- A TASK'S SET
+  pub available-set : (st : State) → setOf 16 (λ u. isLive (activity st i) && isReady (succ t i) (vertices t i) (st .remaining) i u)
+      ≡ setOf 16 (λ u. available t st (16 * i + u))
+  unfolding setOf
+  available-set st = sum-same 16 _ _ (λ u h. ap (λ (b : Bool). pick b (2 ^ u) 0) (sym (available-in st u h)))
 
-  pub none-gathered : (sets : List ℕ) → length sets ≡ 16 → Gathered 0 sets
-  none-gathered sets l = record { below = omega arith; long = l; same = λ k h. absurd (omega arith) }
+-- an idle task has none
+pub none-available : (p : ℕ → Bool) → 0 ≡ setOf 16 (λ u. false && p u)
+unfolding setOf sum
+none-available p = refl
 
-  pub one-gathered : GoodTable t → (i : ℕ) (sets : List ℕ) (x : ℕ) → i < 16 → Gathered i sets
-      → ((u : ℕ) → u < 16 → bit x u ≡ (isLive (activity st i) && isReady (succ t i) (st .remaining) i u))
-      → Gathered (i + 1) (set sets i x)
-  unfolding inSets
-  one-gathered good i sets x h g e = record {
-    below = omega arith;
-    long = length-set sets i x ∙ g .long;
-    same = λ k b. elim (ℕ-discrete (k / 16) i) [
-      | yes q ↦
-          ap (λ (j : ℕ). bit (getD (set sets i x) j 0) (k % 16)) q
-          ∙ ap (λ (n : ℕ). bit n (k % 16)) (getD-set-same sets i x 0 (omega (arith, g .long)))
-          ∙ e (k % 16) (omega arith)
-          ∙ sym (available-in t good i h st k q)
-      | no d ↦ ap (λ (n : ℕ). bit n (k % 16)) (getD-set-other sets i (k / 16) x 0 d) ∙ g .same k (omega arith)
-    ];
-  }
+-- THE SETS OF ALL TASKS hold the available vertices
+pub in-available : (t : Table) (st : State) (k : ℕ) → k < 256 → inSets (availableSets t st) k ≡ available t st k
+unfolding inSets availableSets
+in-available t st k h =
+    let e : 16 * (k / 16) + k % 16 ≡ k = omega arith in
+    ap (λ (n : ℕ). bit n (k % 16)) (row-at 16 _ (k / 16) 0 (omega arith))
+    ∙ bit-set 16 (λ u. available t st (16 * (k / 16) + u)) (k % 16) (omega arith)
+    ∙ ap (available t st) e
 
 -- ---- the ticks left of all tasks
 -- what the code's wrapping difference is
@@ -215,11 +208,3 @@ unfolding left deadline ticksLeft wrap
 left-by st i d r hd hc hr e w =
     let s : r ≡ (d + 2 ^ 32 - st .clock) % 2 ^ 32 = omega arith in
     s ∙ ap (λ (x : ℕ). (x + 2 ^ 32 - st .clock) % 2 ^ 32) e
-
--- a row that is filled in from its start
-pub filled : (f : ℕ → ℕ) (l : List ℕ) (i x : ℕ) → i < length l → ((j : ℕ) → j < i → getD l j 0 ≡ f j) → x ≡ f i
-    → (j : ℕ) → j < i + 1 → getD (set l i x) j 0 ≡ f j
-filled f l i x h g e j b = elim (ℕ-discrete j i) [
-  | yes q ↦ ap (λ (k : ℕ). getD (set l i x) k 0) q ∙ getD-set-same l i x 0 h ∙ e ∙ ap f (sym q)
-  | no d ↦ getD-set-other l i j x 0 d ∙ g j (omega arith)
-]

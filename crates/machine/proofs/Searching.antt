@@ -35,7 +35,7 @@ set-next : (p : ℕ → Bool) (i : ℕ) → setOf (i + 1) p ≡ setOf i p + pick
 unfolding setOf sum
 set-next p i = ap (λ (k : ℕ). setOf k p) (add-one i)
 
-set-small : (p : ℕ → Bool) (i : ℕ) → setOf i p < 2 ^ i
+pub set-small : (p : ℕ → Bool) (i : ℕ) → setOf i p < 2 ^ i
 unfolding setOf sum
 set-small p zero = omega arith
 set-small p (suc i) = go (p i) (set-small p i)

@@ -16,16 +16,52 @@ use Rattle.graph.proofs.Unique.{by-definition}
 use Rattle.table.proofs.Unique.{OneResult}
 use Rattle.machine.proofs.opening.open.Kinds as open-kinds
 use Rattle.machine.proofs.opening.open.Reads as open-reads
+use Rattle.machine.proofs.opening.zeros.Kinds as zeros-kinds
+use Rattle.machine.proofs.opening.zeros.Reads as zeros-reads
 use Rattle.machine.proofs.State.tick.Kinds as tick-kinds
 use Rattle.machine.proofs.State.tick.Reads as tick-reads
+use Rattle.machine.proofs.steps.release.Kinds as release-kinds
+use Rattle.machine.proofs.steps.release.Reads as release-reads
+use Rattle.machine.proofs.choosing.ticks_left.Kinds as ticks-left-kinds
+use Rattle.machine.proofs.choosing.ticks_left.Reads as ticks-left-reads
+use Rattle.machine.proofs.choosing.available_sets.Kinds as available-sets-kinds
+use Rattle.machine.proofs.choosing.available_sets.Reads as available-sets-reads
+use Rattle.machine.proofs.ticking.advance_from.Kinds as advance-from-kinds
+use Rattle.machine.proofs.ticking.advance_from.Reads as advance-from-reads
+use Rattle.machine.proofs.ticking.first_beyond.Kinds as first-beyond-kinds
+use Rattle.machine.proofs.ticking.first_beyond.Reads as first-beyond-reads
+use Rattle.machine.proofs.ticking.first_early.Kinds as first-early-kinds
+use Rattle.machine.proofs.ticking.first_early.Reads as first-early-reads
 use Rattle.machine.proofs.tick_in_place as in-place
 use Rattle.machine.specs.declared.Answer.{Answer}
 
 pub open-one : OneResult 1 open-kinds.ps open-kinds.r open-reads.Post
 open-one κs args x y s t = by-definition
 
+pub zeros-one : OneResult 0 zeros-kinds.ps zeros-kinds.r zeros-reads.Post
+zeros-one κs args x y s t = by-definition
+
 pub tick-one : OneResult 1 tick-kinds.ps tick-kinds.r tick-reads.Post
 tick-one κs args x y s t = by-definition
+
+-- the steps by themselves
+pub release-one : OneResult 0 release-kinds.ps release-kinds.r release-reads.Post
+release-one κs args x y s t = by-definition
+
+pub available-sets-one : OneResult 0 available-sets-kinds.ps available-sets-kinds.r available-sets-reads.Post
+available-sets-one κs args x y s t = by-definition
+
+pub ticks-left-one : OneResult 0 ticks-left-kinds.ps ticks-left-kinds.r ticks-left-reads.Post
+ticks-left-one κs args x y s t = by-definition
+
+pub advance-from-one : OneResult 0 advance-from-kinds.ps advance-from-kinds.r advance-from-reads.Post
+advance-from-one κs args x y s t = by-definition
+
+pub first-beyond-one : OneResult 0 first-beyond-kinds.ps first-beyond-kinds.r first-beyond-reads.Post
+first-beyond-one κs args x y s t = by-definition
+
+pub first-early-one : OneResult 0 first-early-kinds.ps first-early-kinds.r first-early-reads.Post
+first-early-one κs args x y s t = by-definition
 
 -- The tick in place is lent a state, and its contract is an assertion: where it holds of two answers and two states at the return, they are equal.
 module _ {M : Type 1} (𝓤 : URA M) (H : Heap 𝓤) (A : Atoms 𝓤) (at-mem : Memory → SProp 𝓤) (run : Routine → Fun 𝓤) (κs : Lfts 2) (args : Args in-place.signature κs) where

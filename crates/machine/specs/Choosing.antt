@@ -4,7 +4,7 @@ use mathlib.Core.Bool.{Bool, _&&_, _||_, not}
 use mathlib.Core.List.{List}
 use Prim.Native.Nat.{ℕ, _+_, _*_, _/_, _%_, _≤_, _<_}
 use lib.ListN.{getD}
-use lib.Dec.{eqb}
+use lib.Dec.{ltb, eqb}
 use Rattle.graph.specs.Words.{bit, all}
 use Rattle.graph.specs.Graph.{edge}
 
@@ -12,10 +12,10 @@ use Rattle.graph.specs.Graph.{edge}
 unfoldable pub isDone : List ℕ → ℕ → ℕ → Bool
 isDone rest i u = eqb (getD rest (16 * i + u) 0) 0
 
--- step 2, by a task's successors and the row of what remains: "it has something remaining, and every direct predecessor has
--- nothing remaining"
-unfoldable pub isReady : List ℕ → List ℕ → ℕ → ℕ → Bool
-isReady succ rest i u = not (isDone rest i u) && all 16 (λ w. not (edge succ w u) || isDone rest i w)
+-- step 2, by a task's successors, its v and the row of what remains: "it has something remaining, and every direct predecessor
+-- has nothing remaining"; a vertex from v on leads nowhere
+unfoldable pub isReady : List ℕ → ℕ → List ℕ → ℕ → ℕ → Bool
+isReady succ v rest i u = not (isDone rest i u) && all 16 (λ w. not (ltb w v && edge succ w u) || isDone rest i w)
 
 -- sixteen sets, one a task: vertex k % 16 of task k / 16 is in its task's
 unfoldable pub inSets : List ℕ → ℕ → Bool

@@ -2,13 +2,13 @@
 ghost use mathlib.Core.Path.{_≡_};
 ghost use mathlib.Core.Bool.{_&&_, not, true, false};
 ghost use Prim.Native.Nat.{ℕ, _+_, _≤_, _<_};
-ghost use lib.ListN.{length, getD, take};
+ghost use lib.ListN.{length, take};
 ghost use lib.Dec.{eqb};
-ghost use Rattle.graph.specs.Words.{bit};
+ghost use Rattle.graph.specs.Words.{pick, bit, row, setOf};
 ghost use Rattle.table.specs.Good.{GoodTable};
 ghost use Rattle.machine.specs.States.{isLive, deadlineOf, left};
-ghost use Rattle.machine.specs.Steps.{available, ownChoice};
-ghost use Rattle.machine.specs.Choosing.{isReady, inSets, RanksFirst};
+ghost use Rattle.machine.specs.Steps.{availableSets, ownChoice};
+ghost use Rattle.machine.specs.Choosing.{isReady, RanksFirst};
 use crate::Activity;
 use crate::Chosen;
 use crate::State;
@@ -24,37 +24,46 @@ fn deadline_of(a: Activity) -> u32
     }
 }
 
-// The vertices of task i with something remaining to which none such leads.
-fn ready_in(succ: [u16; 16], remaining: &[u32; 256], i: usize) -> u16
+// A vertex's successors, none where it is not used.
+fn successors(set: u16, used: bool) -> u16
+    ensures { λ r. ⌜ r ≡ pick used set 0 ⌝ }
+{
+    if used {
+        return set;
+    }
+    0
+}
+
+// The vertices of task i with something remaining to which none such of the first v leads.
+fn ready_in(succ: [u16; 16], v: usize, remaining: &[u32; 256], i: usize) -> u16
     requires { ⌜ i < 16 ⌝ }
-    ensures { λ r. ⌜ ((u : ℕ) → u < 16 → bit r u ≡ isReady succ (now (remaining .entry)) i u) ⌝ }
+    ensures { λ r. ⌜ r ≡ setOf 16 (isReady succ v (now (remaining .entry)) i) ⌝ }
 {
     let mut unfinished: u16 = 0;
     let mut led: u16 = 0;
     for u in 0..16usize {
         if remaining[16 * i + u] != 0 {
             unfinished |= 1u16 << u;
-            led |= succ[u];
+            led |= successors(succ[u], u < v);
         }
     }
     unfinished & !led
 }
 
 // Task i's available vertices: those of a live job; an idle task has none.
-fn available_in(a: Activity, succ: [u16; 16], remaining: &[u32; 256], i: usize) -> u16
+fn available_in(a: Activity, succ: [u16; 16], v: usize, remaining: &[u32; 256], i: usize) -> u16
     requires { ⌜ i < 16 ⌝ }
-    ensures { λ r. ⌜ ((u : ℕ) → u < 16 → bit r u ≡ (isLive a && isReady succ (now (remaining .entry)) i u)) ⌝ }
+    ensures { λ r. ⌜ (r ≡ setOf 16 (λ u. isLive a && isReady succ v (now (remaining .entry)) i u)) × (length succ ≡ 16) ⌝ }
 {
     match a {
         Activity::Idle { wait } => 0,
-        Activity::Live { deadline, wait } => ready_in(succ, remaining, i),
+        Activity::Live { deadline, wait } => ready_in(succ, v, remaining, i),
     }
 }
 
 // Step 2: each task's available vertices.
-fn available_sets(t: Table, st: State) -> [u16; 16]
-    requires { ⌜ GoodTable t ⌝ }
-    ensures { λ r. ⌜ ((k : ℕ) → k < 256 → inSets r k ≡ available t st k) ⌝ }
+pub fn available_sets(t: Table, st: State) -> [u16; 16]
+    ensures { λ r. ⌜ r ≡ availableSets t st ⌝ }
 {
     let mut sets = [0u16; 16];
     for i in 0..16usize {
@@ -62,14 +71,15 @@ fn available_sets(t: Table, st: State) -> [u16; 16]
         let a = s.activity;
         let x = t.tasks[i];
         let succ = x.succ;
-        sets[i] = available_in(a, succ, &st.remaining, i);
+        let v = x.v as usize;
+        sets[i] = available_in(a, succ, v, &st.remaining, i);
     }
     sets
 }
 
 // Each task's ticks left.
-fn ticks_left(st: State) -> [u32; 16]
-    ensures { λ r. ⌜ ((i : ℕ) → i < 16 → getD r i 0 ≡ left st i) ⌝ }
+pub fn ticks_left(st: State) -> [u32; 16]
+    ensures { λ r. ⌜ r ≡ row 16 (left st) ⌝ }
 {
     let mut ticks = [0u32; 16];
     for i in 0..16usize {

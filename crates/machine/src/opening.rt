@@ -10,7 +10,7 @@ use crate::TaskState;
 use table::Outcome;
 
 // A state of zeros but for its clock and its phase.
-pub(crate) fn zeros(clock: u32, phase: Phase) -> State
+pub fn zeros(clock: u32, phase: Phase) -> State
     ensures { λ r. ⌜ r ≡ zeros clock phase ⌝ }
 {
     let idle = TaskState {

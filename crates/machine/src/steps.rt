@@ -2,18 +2,17 @@
 ghost use mathlib.Core.Path.{_≡_};
 ghost use mathlib.Core.Bool.{_&&_};
 ghost use mathlib.Core.List.{[]};
-ghost use Prim.Native.Nat.{ℕ, _+_, _*_, _-_, _^_, _≤_, _<_};
-ghost use lib.ListN.{getD, take};
+ghost use Prim.Native.Nat.{ℕ, _+_, _*_, _-_, _^_, _<_, min};
+ghost use lib.ListN.{getD};
 ghost use lib.Dec.{eqb};
-ghost use Rattle.graph.specs.Words.{pick, all, row, isIn, Distinct, lowest};
+ghost use Rattle.graph.specs.Words.{pick, all, row, isIn, lowest};
 ghost use Rattle.machine.specs.declared.Activity.the-variants.{Idle, Live};
 ghost use Rattle.machine.specs.States.{isLive, waitOf, deadlineOf, wrap};
-ghost use Rattle.machine.specs.Steps.{released, withWait, worked, finished, ended, missed};
+ghost use Rattle.machine.specs.Steps.{released, withWait, listed, worked, finished, ended, missed};
 use crate::Activity;
 use crate::Chosen;
 use crate::State;
 use crate::TaskState;
-use crate::fitting;
 use table::Table;
 
 // One less, not below 0.
@@ -85,7 +84,7 @@ fn named_costs(t: Table, st: State, named: u16) -> [u32; 256]
 }
 
 // Step 1.
-pub(crate) fn release(t: Table, st: State, named: u16) -> State
+pub fn release(t: Table, st: State, named: u16) -> State
     ensures { λ r. ⌜ r ≡ released t st named ⌝ }
 {
     if named == 0 {
@@ -153,16 +152,26 @@ fn wide(x: u8) -> usize
     x as usize
 }
 
-// Step 4 of what remains.
+// How many of the eight places are used.
+fn places(count: usize) -> usize
+    ensures { λ r. ⌜ r ≡ min count 8 ⌝ }
+{
+    if count < 8 {
+        return count;
+    }
+    8
+}
+
+// Step 4 of what remains; a vertex that is listed twice runs once.
 fn ran(st: State, chosen: Chosen) -> [u32; 256]
-    requires { ⌜ (chosen .count ≤ 8) × Distinct (take (chosen .count) (chosen .keys)) ⌝ }
-    ensures { λ r. ⌜ r ≡ row 256 (λ k. pick (isIn k (take (chosen .count) (chosen .keys))) (getD (st .remaining) k 0 - 1) (getD (st .remaining) k 0)) ⌝ }
+    ensures { λ r. ⌜ r ≡ row 256 (λ k. pick (isIn k (listed chosen)) (getD (st .remaining) k 0 - 1) (getD (st .remaining) k 0)) ⌝ }
 {
     let mut remaining = st.remaining;
+    let count = places(chosen.count);
     let mut j: usize = 0;
-    while j < chosen.count {
+    while j < count {
         let k = wide(chosen.keys[j]);
-        let before = remaining[k];
+        let before = st.remaining[k];
         let after = less(before);
         remaining[k] = after;
         j += 1;
@@ -172,8 +181,7 @@ fn ran(st: State, chosen: Chosen) -> [u32; 256]
 
 // Step 4.
 pub(crate) fn work(t: Table, st: State, named: u16, chosen: Chosen) -> State
-    requires { ⌜ (chosen .count ≤ 8) × Distinct (take (chosen .count) (chosen .keys)) ⌝ }
-    ensures { λ r. ⌜ r ≡ worked t st named (take (chosen .count) (chosen .keys)) ⌝ }
+    ensures { λ r. ⌜ r ≡ worked t st named (listed chosen) ⌝ }
 {
     let p = st.phase;
     State {
@@ -199,7 +207,7 @@ fn ends(s: TaskState, remaining: &[u32; 256], i: usize) -> bool
 {
     let a = s.activity;
     if is_live(a) {
-        return fitting::nothing_left(remaining, i);
+        return fitness::nothing_left(remaining, i);
     }
     false
 }

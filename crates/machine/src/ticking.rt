@@ -1,13 +1,12 @@
 // The tick: its steps one after the other, and its refusals. The definitions are in specs/Ticking.antt.
 ghost use mathlib.Core.Path.{_≡_};
 ghost use mathlib.Core.Bool.{_&&_};
-ghost use Prim.Native.Nat.{ℕ, _≤_, _<_};
-ghost use lib.ListN.{take};
+ghost use Prim.Native.Nat.{ℕ, _<_, min};
 ghost use lib.Dec.{ltb, leb};
-ghost use Rattle.graph.specs.Words.{bit, lowest, Distinct};
+ghost use Rattle.graph.specs.Words.{bit, lowest};
 ghost use Rattle.machine.specs.States.{waitOf, wait};
 ghost use Rattle.table.specs.Good.{GoodTable};
-ghost use Rattle.machine.specs.Steps.{ownChoice, worked};
+ghost use Rattle.machine.specs.Steps.{ownChoice, listed, worked};
 ghost use Rattle.machine.specs.Ticking.{nobody, pairOf, runList, ticked, judged, advanceTo, refuse, tickOn};
 use crate::Answer;
 use crate::Chosen;
@@ -45,7 +44,7 @@ fn pair_of(k: u8) -> Pair
 
 // The vertices that ran, eight places.
 fn run_list(chosen: Chosen) -> [Pair; 8]
-    ensures { λ r. ⌜ r ≡ runList (take (chosen .count) (chosen .keys)) ⌝ }
+    ensures { λ r. ⌜ r ≡ runList (listed chosen) ⌝ }
 {
     let mut ran = [unused(); 8];
     for j in 0..8usize {
@@ -58,7 +57,7 @@ fn run_list(chosen: Chosen) -> [Pair; 8]
 
 // An answer 0 or 34.
 fn told(number: u8, task: u8, chosen: Chosen, done: u16, st: State) -> Ticked
-    ensures { λ r. ⌜ r ≡ ticked number task (take (chosen .count) (chosen .keys)) done st ⌝ }
+    ensures { λ r. ⌜ r ≡ ticked number task (listed chosen) done st ⌝ }
 {
     let reply = Reply {
         number: number,
@@ -96,7 +95,7 @@ pub(crate) fn refuse(st: State, number: u8, place: usize, task: u8) -> Ticked
 
 // Step 6.
 fn judge(chosen: Chosen, done: u16, st: State) -> Ticked
-    ensures { λ r. ⌜ r ≡ judged (take (chosen .count) (chosen .keys)) done st ⌝ }
+    ensures { λ r. ⌜ r ≡ judged (listed chosen) done st ⌝ }
 {
     let i = steps::first_missed(st);
     if i < 16 {
@@ -107,9 +106,8 @@ fn judge(chosen: Chosen, done: u16, st: State) -> Ticked
 }
 
 // Steps 4, 5 and 6, of the state after step 1.
-pub(crate) fn advance_from(t: Table, st: State, named: u16, chosen: Chosen) -> Ticked
-    requires { ⌜ (chosen .count ≤ 8) × Distinct (take (chosen .count) (chosen .keys)) ⌝ }
-    ensures { λ r. ⌜ r ≡ advanceTo (take (chosen .count) (chosen .keys)) (worked t st named (take (chosen .count) (chosen .keys))) ⌝ }
+pub fn advance_from(t: Table, st: State, named: u16, chosen: Chosen) -> Ticked
+    ensures { λ r. ⌜ r ≡ advanceTo (listed chosen) (worked t st named (listed chosen)) ⌝ }
 {
     let after = steps::work(t, st, named, chosen);
     let done = steps::finished_set(after);
@@ -129,7 +127,7 @@ fn is_beyond(named: u16, n: u8, i: u8) -> bool
 }
 
 // 31: the lowest named number at or above n, 16 if there is none.
-fn first_beyond(named: u16, n: u8) -> u8
+pub fn first_beyond(named: u16, n: u8) -> u8
     ensures { λ r. ⌜ r ≡ lowest 16 16 (λ i. bit named i && leb n i) ⌝ }
 {
     for i in 0..16u8 {
@@ -152,12 +150,22 @@ fn is_early(named: u16, s: TaskState, i: u8) -> bool
     false
 }
 
+// How many of the sixteen entries are used.
+fn entries(n: u8) -> u8
+    ensures { λ r. ⌜ r ≡ min n 16 ⌝ }
+{
+    if n < 16 {
+        return n;
+    }
+    16
+}
+
 // 33: the lowest named task with a wait above 0, 16 if there is none.
-fn first_early(named: u16, n: u8, st: State) -> u8
-    requires { ⌜ n ≤ 16 ⌝ }
+pub fn first_early(named: u16, n: u8, st: State) -> u8
     ensures { λ r. ⌜ r ≡ lowest 16 n (λ i. bit named i && ltb 0 (wait st i)) ⌝ }
 {
-    for i in 0..n {
+    let used = entries(n);
+    for i in 0..used {
         if is_early(named, st.tasks[i as usize], i) {
             return i;
         }

@@ -13,6 +13,10 @@ use Rattle.panel.proofs.tables.mt_read.Kinds as mt-read-kinds
 use Rattle.panel.proofs.tables.mt_read.Reads as mt-read-reads
 use Rattle.panel.proofs.tables.mt_write.Kinds as mt-write-kinds
 use Rattle.panel.proofs.tables.mt_write.Reads as mt-write-reads
+use Rattle.panel.proofs.ticks.mt_open.Kinds as mt-open-kinds
+use Rattle.panel.proofs.ticks.mt_open.Reads as mt-open-reads
+use Rattle.panel.proofs.ticks.mt_tick.Kinds as mt-tick-kinds
+use Rattle.panel.proofs.ticks.mt_tick.Reads as mt-tick-reads
 use Rattle.panel.proofs.verdicts.mt_verdict.Kinds as mt-verdict-kinds
 use Rattle.panel.proofs.verdicts.mt_verdict.Reads as mt-verdict-reads
 use Rattle.panel.proofs.verdicts.mt_report.Kinds as mt-report-kinds
@@ -32,3 +36,9 @@ mt-verdict-one κs args x y s t = by-definition
 module _ (κs : Lfts 2) (args : Dens κs mt-report-kinds.ps) (s t : AtExit (endedOf 2 mt-report-kinds.ps mt-report-kinds.r) κs) where
   pub mt-report-one : (x y : ℕ) → mt-report-reads.Post κs args x s → mt-report-reads.Post κs args y t → (x ≡ y) × (now (s .1 .0) ≡ now (t .1 .0))
   mt-report-one x y p q = (by-definition (p .0) (q .0), by-definition (p .1) (q .1))
+
+pub mt-open-one : OneResult 1 mt-open-kinds.ps mt-open-kinds.r mt-open-reads.Post
+mt-open-one κs args x y s t = by-definition
+
+pub mt-tick-one : OneResult 1 mt-tick-kinds.ps mt-tick-kinds.r mt-tick-reads.Post
+mt-tick-one κs args x y s t = by-definition

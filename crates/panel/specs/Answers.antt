@@ -1,12 +1,21 @@
--- Document 01, "Numbers for reading and writing" and "The verdict": the answers as they cross the C face.
+-- Document 01, "Numbers for reading and writing", "The verdict" and "The machine": the answers as they cross the C face.
 use mathlib.Core.List.{List}
 use Prim.Native.Nat.{ℕ}
 use Rattle.panel.specs.declared.ReadAnswer.{ReadAnswer}
 use Rattle.panel.specs.declared.WriteAnswer.{WriteAnswer}
 use Rattle.panel.specs.declared.VerdictAnswer.{VerdictAnswer}
+use Rattle.panel.specs.declared.FaceState.{FaceState}
+use Rattle.panel.specs.declared.OpenAnswer.{OpenAnswer}
+use Rattle.panel.specs.declared.TickAnswer.{TickAnswer}
+use Rattle.panel.specs.States.{faceOf, stateOf, isProper}
+use Rattle.graph.specs.Words.{pick, row}
+use Rattle.machine.specs.declared.Opened.{Opened}
+use Rattle.machine.specs.declared.Ticked.{Ticked}
+use Rattle.machine.specs.States.{opening}
+use Rattle.machine.specs.Ticking.{nobody, tick}
 use Rattle.table.specs.declared.Table.{Table}
 use Rattle.table.specs.Numbers.{number, place, writingNumber, writingPlace}
-use Rattle.table.specs.Reading.{read}
+use Rattle.table.specs.Reading.{whenRead, read}
 use Rattle.table.specs.Writing.{writing}
 use Rattle.verdict.specs.Verdicts.{verdict}
 
@@ -21,3 +30,31 @@ writeAnswer t room = record { number = writingNumber (writing t room); place = w
 -- "The verdict takes a file's bytes." Its number and place, "the answer is the lowest such task and its margin"
 unfoldable pub verdictAnswer : List ℕ → VerdictAnswer
 verdictAnswer s = record { number = verdict s .number; task = verdict s .task; place = verdict s .place; margin = verdict s .margin }
+
+-- "Each answer, opening's too, has a number, a place and a task"; "all tasks are idle with wait 0"
+unfoldable pub openedFace : Opened → OpenAnswer
+openedFace o = record { number = o .reply .number; task = o .reply .task; place = o .reply .place; state = faceOf (o .state) }
+
+unfoldable pub openAnswer : List ℕ → ℕ → OpenAnswer
+openAnswer s clock = openedFace (opening s clock)
+
+-- "With 0 or 34 come the vertices that ran .. and the set of tasks finished"
+unfoldable pub tickedFace : Ticked → TickAnswer
+tickedFace t = record {
+  number = t .answer .reply .number;
+  task = t .answer .reply .task;
+  place = t .answer .reply .place;
+  ran = t .answer .ran;
+  finished = t .answer .finished;
+  state = faceOf (t .state);
+}
+
+-- "A refused tick returns the same state, eight unused places and the empty set."
+unfoldable pub refusedFace : FaceState → ℕ → ℕ → TickAnswer
+refusedFace f number place = record { number = number; task = 255; place = place; ran = row 8 (λ j. nobody); finished = 0; state = f }
+
+-- "Refusals, in this order: reading's numbers; 30, the state doesn't fit the table": what is no state of the machine fits none
+unfoldable pub tickAnswer : List ℕ → FaceState → ℕ → TickAnswer
+tickAnswer s f named =
+    whenRead (read s .outcome) (λ o. refusedFace f (number o) (place o)) λ _.
+    pick (isProper f) (tickedFace (tick s (stateOf f) named)) (refusedFace f 30 0)

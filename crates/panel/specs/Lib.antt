@@ -1,2 +1,3 @@
 -- Document 01's answers as they cross the C face: no enum does, so each is set out as its number, its place and its values.
 pub mod Answers
+pub mod States

@@ -1,21 +1,30 @@
-use mathlib.Core.Path.{refl}
-use Prim.Native.Nat.{_-_}
+use mathlib.Core.Path.{_≡_, refl, _∙_}
+use Prim.Native.Nat.{ℕ, _+_, _*_, _-_, _≤_}
 use native.Mathlib.Omega.{arith}
 use borrow.Author.Needs.{needs}
-use Rattle.table.specs.Memory.{noTask, task, succ}
+use Rattle.graph.specs.Words.{setOf}
+use Rattle.table.specs.declared.Table.{Table}
+use Rattle.table.specs.Memory.{noTask, task, vertices, succ}
+use Rattle.machine.specs.declared.State.{State}
 use Rattle.machine.specs.States.{idle, activity}
-use Rattle.machine.proofs.Ready.{Gathered, none-gathered, one-gathered}
+use Rattle.machine.specs.Steps.{available, availableSets}
+use Rattle.machine.proofs.Filling.{Filled, filled-none, filled-set, filled-all}
+use Rattle.machine.proofs.Ready.{available-set}
 use Rattle.machine.proofs.choosing.available_sets.Statement.{statement}
 use Rattle.machine.proofs.choosing.available_sets.Tie as tie
 
+-- task i's set
+abbrev oneSet : Table → State → ℕ → ℕ
+oneSet t st i = setOf 16 (λ u. available t st (16 * i + u))
+
 abbrev Inv-loop : tie.InvT-loop
-Inv-loop t st sets₀ i₀ sets i = Gathered t st i sets
+Inv-loop t st sets₀ i₀ sets i = (i ≤ 16) × Filled 16 0 (oneSet t st) sets₀ i sets
 
 abbrev μ-loop : tie.MeasureT-loop
 μ-loop t st sets₀ i₀ sets i = 16 - i
 
 loop-holds : tie.Need-loop-holds Inv-loop μ-loop
-loop-holds c = none-gathered (c .args .t1) (c .args .t2) _ refl
+loop-holds c = (search needs, filled-none 16 0 _ _ refl)
 
 mul-s : tie.Need-mul-s Inv-loop μ-loop
 mul-s c = search needs
@@ -28,6 +37,9 @@ mul-x c = search needs
 
 element-copy-out-x : tie.Need-element-copy-out-x Inv-loop μ-loop
 element-copy-out-x c = search needs
+
+cast-v : tie.Need-cast-v Inv-loop μ-loop
+cast-v c = search needs
 
 available-in-requires : tie.Need-available-in-requires Inv-loop μ-loop
 available-in-requires c κs = search needs
@@ -45,16 +57,19 @@ loop-less : tie.Need-loop-less Inv-loop μ-loop
 loop-less c = search needs
 
 loop-again : tie.Need-loop-again Inv-loop μ-loop
-unfolding activity idle succ task noTask
+unfolding activity idle vertices succ task noTask
 loop-again c =
-    let s = c .before .before .before .before .before .before .before .before in
-    let l = c .before .before .before .before .before .before .before .loop in
-    one-gathered (s .args .t1) (s .args .t2) (s .pre) (l .i) (l .sets) (c .available-in .result) (omega arith) (l .inv) (c .available-in .ensures)
+    let s = c .before .before .before .before .before .before .before .before .before in
+    let l = c .before .before .before .before .before .before .before .before .loop in
+    let e = c .available-in .ensures in (
+      omega arith,
+      filled-set 16 0 (oneSet (s .args .t1) (s .args .t2)) _ (l .i) (l .sets) (l .inv .1) (c .available-in .result) (omega arith)
+          (e .0 ∙ available-set (s .args .t1) (l .i) (e .1) (s .args .t2)),
+    )
 
 returns : tie.Need-returns Inv-loop μ-loop
-returns c = λ k h.
-    let l = c .before .loop in
-    l .inv .same k (omega arith)
+unfolding availableSets
+returns c = filled-all 16 0 _ _ _ _ (c .before .loop .inv .1) (omega arith)
 
 pub available-sets-spec : {M : Type 1} → statement M
 available-sets-spec =
@@ -67,6 +82,7 @@ available-sets-spec =
     element-copy-out-s
     mul-x
     element-copy-out-x
+    cast-v
     available-in-requires
     mul-sets
     array-write-sets

@@ -1,9 +1,14 @@
 -- The loop's invariant: `count` of the ranking were picked, and the sets hold the others.
-use mathlib.Core.Path.{_≡_, refl}
-use Prim.Native.Nat.{_≤_, _-_}
+use mathlib.Core.Path.{_≡_, refl, ap, _∙_}
+use mathlib.Core.List.{List}
+use Prim.Native.Nat.{ℕ, _≤_, _-_}
 use native.Mathlib.Omega.{arith}
 use borrow.Author.Needs.{needs}
-use lib.ListN.{length}
+use lib.ListN.{length, getD}
+use Rattle.graph.proofs.Facts.{row-at}
+use Rattle.machine.specs.States.{left}
+use Rattle.machine.specs.Choosing.{inSets}
+use Rattle.machine.proofs.Ready.{in-available}
 use Rattle.machine.proofs.Picking.{PickedFrom, none-picked, one-picked, m-chosen, all-chosen}
 use Rattle.machine.proofs.choosing.choose.Statement.{statement}
 use Rattle.machine.proofs.choosing.choose.Tie as tie
@@ -38,7 +43,7 @@ returns c =
     let a = c .before .before .before .before .available-sets in
     let n : length (a .result) ≡ 16 = search needs in
     let r = all-chosen (s .args .t) (s .args .st) (c .before .before .before .before .before .ticks-left .result) (a .result) n
-    (c .before .before .before .before .before .ticks-left .ensures) (a .ensures) (l .sets) (l .keys) (l .count) (l .inv .1) (l .inv .0)
+    (λ j b. ap (λ (z : List ℕ). getD z j 0) (c .before .before .before .before .before .ticks-left .ensures) ∙ row-at 16 (left (s .args .st)) j 0 b) (λ j b. ap (λ (z : List ℕ). inSets z j) (a .ensures) ∙ in-available (s .args .t) (s .args .st) j b) (l .sets) (l .keys) (l .count) (l .inv .1) (l .inv .0)
     (c .before .next-task .ensures .none (c .if1 .taken)) in
     (r .0, omega (arith, s .pre .m-high), r .1)
 
@@ -102,7 +107,7 @@ returns-2 c =
     let a = c .before .before .available-sets in
     let k = c .before .before .before .ticks-left in
     let n : length (a .result) ≡ 16 = search needs in
-    let r = m-chosen (s .args .t) (s .args .st) (k .result) (a .result) n (k .ensures) (a .ensures) (l .sets) (l .keys) (l .count) (l .inv .1) (omega (arith, l .inv .0)) in
+    let r = m-chosen (s .args .t) (s .args .st) (k .result) (a .result) n (λ j b. ap (λ (z : List ℕ). getD z j 0) (k .ensures) ∙ row-at 16 (left (s .args .st)) j 0 b) (λ j b. ap (λ (z : List ℕ). inSets z j) (a .ensures) ∙ in-available (s .args .t) (s .args .st) j b) (l .sets) (l .keys) (l .count) (l .inv .1) (omega (arith, l .inv .0)) in
     (r .0, omega (arith, s .pre .m-high), r .1)
 
 pub choose-spec : {M : Type 1} → statement M

@@ -1,25 +1,23 @@
 use mathlib.Core.Path.{_≡_}
 use mathlib.Core.Logic.{⊎-elim}
-use mir.Val.{Fits}
-use mir.Syntax.{w16}
-use lib.ListN.{getD}
-use borrow.Author.Tests.{eq-eqb, ne-eqb}
-use Rattle.machine.specs.Choosing.{isDone}
 use Prim.Native.Nat.{_+_, _*_, _-_}
 use native.Mathlib.Omega.{arith}
+use lib.ListN.{getD}
 use borrow.Author.Needs.{needs}
+use borrow.Author.Tests.{eq-eqb, ne-eqb}
+use Rattle.machine.specs.Choosing.{isDone}
 use Rattle.machine.proofs.Ready.{Seen, seen-none, seen-open, seen-done, seen-all}
 use Rattle.machine.proofs.choosing.ready_in.Statement.{statement}
 use Rattle.machine.proofs.choosing.ready_in.Tie as tie
 
 abbrev Inv-loop : tie.InvT-loop
-Inv-loop remaining i succ unfinished₀ led₀ u₀ unfinished led u = Seen succ remaining i u unfinished led
+Inv-loop v remaining i succ unfinished₀ led₀ u₀ unfinished led u = Seen succ v remaining i u unfinished led
 
 abbrev μ-loop : tie.MeasureT-loop
-μ-loop remaining i succ unfinished₀ led₀ u₀ unfinished led u = 16 - u
+μ-loop v remaining i succ unfinished₀ led₀ u₀ unfinished led u = 16 - u
 
 loop-holds : tie.Need-loop-holds Inv-loop μ-loop
-loop-holds c = seen-none _ _ _
+loop-holds c = seen-none _ _ _ _
 
 mul-if1 : tie.Need-mul-if1 Inv-loop μ-loop
 mul-if1 c = search needs
@@ -39,11 +37,14 @@ cast-unfinished c = search needs
 shl-unfinished : tie.Need-shl-unfinished Inv-loop μ-loop
 shl-unfinished c = search needs
 
-mul-led : tie.Need-mul-led Inv-loop μ-loop
-mul-led c = search needs
+mul-successors : tie.Need-mul-successors Inv-loop μ-loop
+mul-successors c = search needs
 
-array-read-led : tie.Need-array-read-led Inv-loop μ-loop
-array-read-led c = search needs
+array-read-successors : tie.Need-array-read-successors Inv-loop μ-loop
+array-read-successors c = search needs
+
+successors-requires : tie.Need-successors-requires Inv-loop μ-loop
+successors-requires c κs = search needs
 
 add-u : tie.Need-add-u Inv-loop μ-loop
 add-u c = search needs
@@ -56,10 +57,9 @@ unfolding isDone
 loop-again c =
     let a = c .before .before .before .before .args in
     let l = c .before .before .before .loop in
-    let f : Fits w16 (getD (a .t1) (l .u) 0) = search needs in
     ⊎-elim
-    (λ w. rw (w .1, w .2) (seen-open (a .t1) (a .remaining .now) (a .i) (l .u) (l .unfinished) (l .led) (omega arith) (l .inv) (omega arith) (ne-eqb _ 0 (w .0 .taken))))
-    (λ w. rw (w .1, w .2) (seen-done (a .t1) (a .remaining .now) (a .i) (l .u) (l .unfinished) (l .led) (omega arith) (l .inv) (eq-eqb (getD (a .remaining .now) (16 * a .i + l .u) 0) 0 (omega (arith, w .0 .left)))))
+    (λ w. rw (w .2, w .3) (seen-open (a .t1) (a .v) (a .remaining .now) (a .i) (l .u) (l .unfinished) (l .led) (omega arith) (l .inv) (w .1 .result) (w .1 .ensures) (omega arith) (ne-eqb _ 0 (w .0 .taken))))
+    (λ w. rw (w .1, w .2) (seen-done (a .t1) (a .v) (a .remaining .now) (a .i) (l .u) (l .unfinished) (l .led) (omega arith) (l .inv) (eq-eqb (getD (a .remaining .now) (16 * a .i + l .u) 0) 0 (omega (arith, w .0 .left)))))
     (c .if1 .came)
 
 returns : tie.Need-returns Inv-loop μ-loop
@@ -67,7 +67,7 @@ returns c =
     let a = c .before .before .args in
     let l = c .before .loop in
     let e : l .u ≡ 16 = let b = l .inv .below in omega arith in
-    seen-all (a .t1) (a .remaining .now) (a .i) (l .unfinished) (l .led) (rw e at (l .inv))
+    seen-all (a .t1) (a .v) (a .remaining .now) (a .i) (l .unfinished) (l .led) (rw e at (l .inv))
 
 pub ready-in-spec : {M : Type 1} → statement M
 ready-in-spec =
@@ -82,8 +82,9 @@ ready-in-spec =
     element-copy-out-if1
     cast-unfinished
     shl-unfinished
-    mul-led
-    array-read-led
+    mul-successors
+    array-read-successors
+    successors-requires
     add-u
     loop-less
     loop-again

@@ -1,23 +1,23 @@
 use mir.Val.{Fits}
 use mir.Syntax.{w32}
-use mathlib.Core.Path.{_≡_, _∙_}
-use Prim.Native.Nat.{ℕ, _≤_, _<_, _-_}
+use mathlib.Core.Path.{refl}
+use Prim.Native.Nat.{_≤_, _-_}
 use native.Mathlib.Omega.{arith}
 use borrow.Author.Needs.{needs}
-use lib.ListN.{length, getD, length-set}
 use Rattle.machine.specs.States.{idle, activity, left}
-use Rattle.machine.proofs.Ready.{left-by, filled}
+use Rattle.machine.proofs.Filling.{Filled, filled-none, filled-set, filled-all}
+use Rattle.machine.proofs.Ready.{left-by}
 use Rattle.machine.proofs.choosing.ticks_left.Statement.{statement}
 use Rattle.machine.proofs.choosing.ticks_left.Tie as tie
 
 abbrev Inv-loop : tie.InvT-loop
-Inv-loop st ticks₀ i₀ ticks i = (i ≤ 16) × (length ticks ≡ 16) × ((j : ℕ) → j < i → getD ticks j 0 ≡ left st j)
+Inv-loop st ticks₀ i₀ ticks i = (i ≤ 16) × Filled 16 0 (left st) ticks₀ i ticks
 
 abbrev μ-loop : tie.MeasureT-loop
 μ-loop st ticks₀ i₀ ticks i = 16 - i
 
 loop-holds : tie.Need-loop-holds Inv-loop μ-loop
-loop-holds c = (omega arith, search needs, λ j h. absurd (omega arith))
+loop-holds c = (omega arith, filled-none 16 0 _ _ refl)
 
 mul-s : tie.Need-mul-s Inv-loop μ-loop
 mul-s c = search needs
@@ -52,16 +52,12 @@ loop-again c =
     let d = c .before .deadline-of in
     let n : Fits w32 (a .t1 .clock) = search needs in (
       omega arith,
-      length-set (l .ticks) (l .i) (r .result) ∙ l .inv .1,
-      filled (left (a .t1)) (l .ticks) (l .i) (r .result) (omega (arith, l .inv .1)) (l .inv .2)
+      filled-set 16 0 (left (a .t1)) _ (l .i) (l .ticks) (l .inv .1) (r .result) (omega arith)
           (left-by (a .t1) (l .i) (d .result) (r .result) (omega (arith, d .ok)) (omega arith) (omega (arith, r .ok)) (d .ensures) (r .ensures)),
     )
 
 returns : tie.Need-returns Inv-loop μ-loop
-returns c = λ i h.
-    let l = c .before .loop in
-    let e : l .i ≡ 16 = omega arith in
-    l .inv .2 i (omega arith)
+returns c = filled-all 16 0 _ _ _ _ (c .before .loop .inv .1) (omega arith)
 
 pub ticks-left-spec : {M : Type 1} → statement M
 ticks-left-spec =

@@ -6,10 +6,10 @@ use native.Mathlib.Omega.{arith}
 use borrow.Author.Needs.{needs}
 use borrow.Author.Tests.{not-true, not-false}
 use Rattle.graph.specs.Words.{all}
-use Rattle.machine.specs.States.{idle}
+use Rattle.machine.specs.States.{idle, activity, live, wait}
 use Rattle.machine.specs.Fitting.{zeroTaskIn}
-use Rattle.machine.proofs.Behind.{all-more, all-off, all-done}
-use Rattle.machine.proofs.Fits.{zero-in}
+use Rattle.fitness.proofs.Behind.{all-more, all-off, all-done}
+use Rattle.machine.proofs.Fits.{zero-same}
 use Rattle.machine.proofs.fitting.all_zero.Statement.{statement}
 use Rattle.machine.proofs.fitting.all_zero.Tie as tie
 
@@ -29,15 +29,15 @@ mul-s c = search needs
 element-copy-out-s : tie.Need-element-copy-out-s Inv-loop μ-loop
 element-copy-out-s c = search needs
 
-zero-task-requires : tie.Need-zero-task-requires Inv-loop μ-loop
-zero-task-requires c κs = search needs
+zero-in-requires : tie.Need-zero-in-requires Inv-loop μ-loop
+zero-in-requires c κs = search needs
 
 returns : tie.Need-returns Inv-loop μ-loop
-unfolding idle
+unfolding activity live wait idle
 returns c =
     let l = c .before .before .before .before .before .before .loop in
     let st = c .before .before .before .before .before .before .before .args .t1 in
-    all-off 16 _ (l .i) (omega arith) (sym (c .before .zero-task .ensures ∙ zero-in st _ _ refl _ refl) ∙ not-true _ (c .if1 .taken))
+    all-off 16 _ (l .i) (omega arith) (sym (c .before .zero-in .ensures ∙ zero-same st (l .i) (omega arith)) ∙ not-true _ (c .if1 .taken))
 
 add-i : tie.Need-add-i Inv-loop μ-loop
 add-i c = search needs
@@ -46,11 +46,11 @@ loop-less : tie.Need-loop-less Inv-loop μ-loop
 loop-less c = search needs
 
 loop-again : tie.Need-loop-again Inv-loop μ-loop
-unfolding idle
+unfolding activity live wait idle
 loop-again c =
     let l = c .before .before .before .before .before .before .loop in
     let st = c .before .before .before .before .before .before .before .args .t1 in
-    (omega arith, all-more _ _ (l .inv .1) (sym (c .before .zero-task .ensures ∙ zero-in st _ _ refl _ refl) ∙ not-false _ (c .if1 .left)))
+    (omega arith, all-more _ _ (l .inv .1) (sym (c .before .zero-in .ensures ∙ zero-same st (l .i) (omega arith)) ∙ not-false _ (c .if1 .left)))
 
 returns-2 : tie.Need-returns-2 Inv-loop μ-loop
 returns-2 c = all-done 16 _ (c .before .loop .i) (omega arith) (c .before .loop .inv .1)
@@ -64,7 +64,7 @@ all-zero-spec =
     loop-holds
     mul-s
     element-copy-out-s
-    zero-task-requires
+    zero-in-requires
     returns
     add-i
     loop-less

@@ -7,10 +7,10 @@ use borrow.Author.Needs.{needs}
 use borrow.Author.Tests.{not-true, not-false}
 use Rattle.graph.specs.Words.{all}
 use Rattle.table.specs.Memory.{noTask, task}
-use Rattle.machine.specs.States.{idle}
+use Rattle.machine.specs.States.{idle, activity, live, wait, deadline, left}
 use Rattle.machine.specs.Fitting.{fitsTask}
-use Rattle.machine.proofs.Behind.{all-more, all-off, all-done}
-use Rattle.machine.proofs.Fits.{at-most-sixteen}
+use Rattle.fitness.proofs.Behind.{all-more, all-off, all-done}
+use Rattle.machine.proofs.Fits.{same-rules}
 use Rattle.machine.proofs.fitting.tasks_fit.Statement.{statement}
 use Rattle.machine.proofs.fitting.tasks_fit.Tie as tie
 
@@ -39,18 +39,15 @@ mul-s c = search needs
 element-copy-out-s : tie.Need-element-copy-out-s Inv-loop μ-loop
 element-copy-out-s c = search needs
 
-fits-task-requires : tie.Need-fits-task-requires Inv-loop μ-loop
-unfolding task noTask
-fits-task-requires c κs =
-    let a = c .before .before .before .before .before .before .before .before in
-    (omega arith, at-most-sixteen (a .args .t1) (a .pre) (c .before .before .before .before .before .before .before .loop .i) (omega arith))
+task-fits-requires : tie.Need-task-fits-requires Inv-loop μ-loop
+task-fits-requires c κs = search needs
 
 returns : tie.Need-returns Inv-loop μ-loop
-unfolding task noTask idle
+unfolding task noTask activity live left deadline wait idle
 returns c =
     let l = c .before .before .before .before .before .before .before .before .before .loop in
     let a = c .before .before .before .before .before .before .before .before .before .before in
-    all-off 16 _ (l .i) (omega arith) (sym (c .before .fits-task .ensures (a .args .t1) (a .args .t2) (a .pre) refl refl refl refl refl refl) ∙ not-true _ (c .if1 .taken))
+    all-off 16 _ (l .i) (omega arith) (sym (c .before .task-fits .ensures ∙ same-rules (a .args .t1) (a .args .t2) (a .pre) (l .i) (omega arith)) ∙ not-true _ (c .if1 .taken))
 
 add-i : tie.Need-add-i Inv-loop μ-loop
 add-i c = search needs
@@ -59,11 +56,11 @@ loop-less : tie.Need-loop-less Inv-loop μ-loop
 loop-less c = search needs
 
 loop-again : tie.Need-loop-again Inv-loop μ-loop
-unfolding task noTask idle
+unfolding task noTask activity live left deadline wait idle
 loop-again c =
     let l = c .before .before .before .before .before .before .before .before .before .loop in
     let a = c .before .before .before .before .before .before .before .before .before .before in
-    (omega arith, all-more _ _ (l .inv .1) (sym (c .before .fits-task .ensures (a .args .t1) (a .args .t2) (a .pre) refl refl refl refl refl refl) ∙ not-false _ (c .if1 .left)))
+    (omega arith, all-more _ _ (l .inv .1) (sym (c .before .task-fits .ensures ∙ same-rules (a .args .t1) (a .args .t2) (a .pre) (l .i) (omega arith)) ∙ not-false _ (c .if1 .left)))
 
 returns-2 : tie.Need-returns-2 Inv-loop μ-loop
 returns-2 c = all-done 16 _ (c .before .loop .i) (omega arith) (c .before .loop .inv .1)
@@ -80,7 +77,7 @@ tasks-fit-spec =
     element-copy-out-a
     mul-s
     element-copy-out-s
-    fits-task-requires
+    task-fits-requires
     returns
     add-i
     loop-less

@@ -1,5 +1,7 @@
 use mathlib.Core.Path.{refl, sym, _∙_}
+use native.Mathlib.Omega.{arith}
 use borrow.Author.Needs.{needs}
+use Rattle.fitness.proofs.Cases.{none-left}
 use Rattle.machine.proofs.steps.ends.Statement.{statement}
 use Rattle.machine.proofs.steps.ends.Tie as tie
 
@@ -10,7 +12,7 @@ nothing-left-requires : tie.Need-nothing-left-requires
 nothing-left-requires c κs = search needs
 
 returns : tie.Need-returns
-returns c = rw (sym (c .before .before .is-live .ensures) ∙ c .before .if1 .taken) (c .nothing-left .ensures)
+returns c = rw (sym (c .before .before .is-live .ensures) ∙ c .before .if1 .taken) (c .nothing-left .ensures ∙ sym (none-left _ _ (omega arith)))
 
 returns-2 : tie.Need-returns-2
 returns-2 c = rw (sym (c .before .is-live .ensures) ∙ c .if1 .left) refl

@@ -1,21 +1,25 @@
 use mathlib.Core.Path.{_≡_, sym, _∙_}
 use Prim.Native.Nat.{_-_, _≤_}
 use native.Mathlib.Omega.{arith}
-use lib.ListN.{length, getD, take}
-use lib.Seq.{length-take-le, getD-take}
+use lib.ListN.{length, length-take}
+use lib.Seq.{getD-take}
 use borrow.Author.Needs.{needs}
+use Rattle.machine.specs.Steps.{listed}
 use Rattle.machine.proofs.Ran.{lessIn, RanTo, ran-none, ran-one, ran-all}
 use Rattle.machine.proofs.steps.ran.Statement.{statement}
 use Rattle.machine.proofs.steps.ran.Tie as tie
 
 abbrev Inv-loop : tie.InvT-loop
-Inv-loop chosen remaining₀ j₀ remaining j = (j ≤ chosen .count) × RanTo (take (chosen .count) (chosen .keys)) remaining₀ j remaining
+Inv-loop st chosen remaining₀ count j₀ remaining j = (j ≤ count) × RanTo (listed chosen) (st .remaining) j remaining
 
 abbrev μ-loop : tie.MeasureT-loop
-μ-loop chosen remaining₀ j₀ remaining j = chosen .count - j
+μ-loop st chosen remaining₀ count j₀ remaining j = count - j
+
+places-requires : tie.Need-places-requires Inv-loop μ-loop
+places-requires c κs = search needs
 
 loop-holds : tie.Need-loop-holds Inv-loop μ-loop
-loop-holds c = (search needs, ran-none _ _ (search needs) (c .before .pre .1))
+loop-holds c = (search needs, ran-none _ _ (search needs))
 
 element-copy-out-wide : tie.Need-element-copy-out-wide Inv-loop μ-loop
 element-copy-out-wide c = search needs
@@ -26,8 +30,8 @@ wide-requires c κs = search needs
 mul-before : tie.Need-mul-before Inv-loop μ-loop
 mul-before c = search needs
 
-array-read-before : tie.Need-array-read-before Inv-loop μ-loop
-array-read-before c = search needs
+element-copy-out-before : tie.Need-element-copy-out-before Inv-loop μ-loop
+element-copy-out-before c = search needs
 
 less-requires : tie.Need-less-requires Inv-loop μ-loop
 less-requires c κs = search needs
@@ -46,13 +50,13 @@ loop-less c = search needs
 
 loop-again : tie.Need-loop-again Inv-loop μ-loop
 loop-again c =
-    let l = c .before .before .before .before .loop in
-    let s = c .before .before .before .before .before .before in
-    let x = c .before .wide in
+    let l = c .before .before .before .before .before .loop in
+    let s = c .before .before .before .before .before .before .before .before in
+    let x = c .before .before .wide in
     let h : length (s .args .t2 .keys) ≡ 8 = search needs in
-    let n = length-take-le (s .args .t2 .count) (s .args .t2 .keys) (omega (arith, s .pre .0)) in (
+    let n = length-take (s .args .t2 .count) (s .args .t2 .keys) in (
       omega arith,
-      ran-one _ (s .args .st .remaining) (l .j) (l .remaining) (l .inv .1) (x .result) (c .less .result) (omega arith)
+      ran-one _ (s .args .t1 .remaining) (l .j) (l .remaining) (l .inv .1) (x .result) (c .less .result) (omega arith)
           (x .ensures .0 ∙ sym (getD-take (s .args .t2 .count) (s .args .t2 .keys) (l .j) 0 (omega arith))) (x .ensures .1) (c .less .ensures),
     )
 
@@ -60,9 +64,9 @@ returns : tie.Need-returns Inv-loop μ-loop
 unfolding lessIn
 returns c =
     let l = c .before .loop in
-    let a = c .before .before .before .args in
+    let a = c .before .before .before .before .args in
     let h : length (a .t2 .keys) ≡ 8 = search needs in
-    let n = length-take-le (a .t2 .count) (a .t2 .keys) (omega (arith, c .before .before .before .pre .0)) in
+    let n = length-take (a .t2 .count) (a .t2 .keys) in
     ran-all _ _ (l .j) (l .remaining) (l .inv .1) (omega arith)
 
 pub ran-spec : {M : Type 1} → statement M
@@ -71,11 +75,12 @@ ran-spec =
     (tie.spec
     Inv-loop
     μ-loop
+    places-requires
     loop-holds
     element-copy-out-wide
     wide-requires
     mul-before
-    array-read-before
+    element-copy-out-before
     less-requires
     mul-remaining
     array-write-remaining

@@ -1,22 +1,27 @@
-use mathlib.Core.Path.{sym, _∙_}
-use mathlib.Core.Bool.{_&&_}
+use mathlib.Core.Path.{sym, ap, _∙_}
+use mathlib.Core.Bool.{Bool, _&&_}
 use Prim.Native.Nat.{_-_, _≤_}
 use native.Mathlib.Omega.{arith}
+use native.Mathlib.Decide.{decLt}
 use lib.Dec.{ltb}
 use borrow.Author.Needs.{needs}
 use borrow.Author.Count.{below-none, below-more}
 use Rattle.graph.specs.Words.{bit}
 use Rattle.graph.proofs.Facts.{lowest-is, lowest-none}
+use Rattle.graph.proofs.Bits.{bit-past}
 use Rattle.machine.specs.States.{idle, activity, wait}
 use Rattle.machine.proofs.Lowest.{None}
 use Rattle.machine.proofs.ticking.first_early.Statement.{statement}
 use Rattle.machine.proofs.ticking.first_early.Tie as tie
 
 abbrev Inv-loop : tie.InvT-loop
-Inv-loop named n st i₀ i = (i ≤ n) × None i (λ k. bit named k && ltb 0 (wait st k))
+Inv-loop named n st used i₀ i = (i ≤ used) × None i (λ k. bit named k && ltb 0 (wait st k))
 
 abbrev μ-loop : tie.MeasureT-loop
-μ-loop named n st i₀ i = n - i
+μ-loop named n st used i₀ i = used - i
+
+entries-requires : tie.Need-entries-requires Inv-loop μ-loop
+entries-requires c κs = search needs
 
 loop-holds : tie.Need-loop-holds Inv-loop μ-loop
 loop-holds c = (search needs, below-none _)
@@ -50,7 +55,12 @@ unfolding wait activity idle
 loop-again c = (omega arith, below-more _ _ (c .before .before .before .before .loop .inv .1) (sym (c .before .is-early .ensures) ∙ c .if1 .left))
 
 returns-2 : tie.Need-returns-2 Inv-loop μ-loop
-returns-2 c = sym (lowest-none 16 _ _ (λ j b. c .before .loop .inv .1 j (omega arith)))
+returns-2 c =
+    let a = c .before .before .before .args in
+    sym (lowest-none 16 _ _ (λ j b. elim (decLt j 16) [
+      | yes h ↦ c .before .loop .inv .1 j (omega arith)
+      | no h ↦ ap (λ (x : Bool). x && ltb 0 (wait (a .t3) j)) (bit-past (a .named) 16 j (omega arith) (omega arith))
+    ]))
 
 pub first-early-spec : {M : Type 1} → statement M
 first-early-spec =
@@ -58,6 +68,7 @@ first-early-spec =
     (tie.spec
     Inv-loop
     μ-loop
+    entries-requires
     loop-holds
     cast-is-early
     mul-is-early

@@ -1,18 +1,16 @@
-use mathlib.Core.Path.{_≡_, sym, ap, subst, _∙_}
+use mathlib.Core.Path.{_≡_, sym, ap, _∙_}
 use mathlib.Core.Bool.{true}
 use mathlib.Core.List.{List}
 use Prim.Native.Nat.{ℕ}
 use native.Mathlib.Omega.{arith}
 use borrow.Author.Needs.{needs}
 use borrow.Author.Tests.{not-true, not-false}
-use Rattle.graph.specs.Words.{Distinct}
 use Rattle.machine.specs.declared.State.{State}
 use Rattle.machine.specs.Fitting.{fits}
 use Rattle.machine.specs.Steps.{ownChoice, worked}
 use Rattle.machine.specs.Ticking.{advanceTo, advance}
 use Rattle.machine.proofs.Lowest.{None}
 use Rattle.machine.proofs.Cases.{beyond, tooSoon, unfit-30, stopped-32, beyond-31, early-33, admitted-advances}
-use Rattle.machine.proofs.Own.{own-legal}
 use Rattle.machine.proofs.Searching.{found, found-none}
 use Rattle.machine.proofs.ticking.tick_on.Statement.{statement}
 use Rattle.machine.proofs.ticking.tick_on.Tie as tie
@@ -92,7 +90,7 @@ choose-requires : tie.Need-choose-requires
 choose-requires c κs = search needs
 
 advance-from-requires : tie.Need-advance-from-requires
-advance-from-requires c κs = (c .choose .ensures .1, subst Distinct (sym (c .choose .ensures .0)) (own-legal _ _ .distinct))
+advance-from-requires c κs = search needs
 
 returns-5 : tie.Need-returns-5
 unfolding advance tooSoon

@@ -1,0 +1,7 @@
+-- The examples.
+pub mod Computed
+-- Demand 3 is not empty.
+pub mod Tests
+pub mod Witness
+-- Files that reach both ends of the margin's range.
+pub mod Ends

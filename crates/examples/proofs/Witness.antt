@@ -1,0 +1,83 @@
+-- DEMAND 3 IS NOT EMPTY, computed.
+use mathlib.Core.Path.{_≡_, refl}
+use mathlib.Core.Bool.{true, false}
+use mathlib.Core.List.{_++_}
+use Prim.Native.Nat.{ℕ, _+_, _^_, _≤_, _<_}
+use native.Mathlib.Omega.{arith}
+use lib.ListN.{length, take}
+use lib.Dec.{T, leb, ltb, ltb→lt}
+use lib.IntN.{pos}
+use borrow.Author.Tests.{leb-true}
+use Rattle.graph.specs.Words.{bit, sum, all, rowFrom, row, largest, alsoIf, those, thoseBelow, lowest, isIn, anyOf, isNone, setOf, joinFrom, inOrder, firstOr, lowestOr}
+use Rattle.graph.specs.Graph.{edge, ledTo, sweep, sweeps, acyclicAmong, acyclic, oneMore, longestFrom, maximum, longest}
+use Rattle.table.specs.Memory.{noSucc, noCosts, zeroTask, noTasks, noRow, noTable, noTask, task, vertices, D, succ, edgeIn, cost}
+use Rattle.table.specs.Memory
+use Rattle.table.specs.Numbers.{number, place}
+use Rattle.table.specs.Reading.{field, markAt, ranged, byteAt, value4, ticksAt, notUnder, periodAt, edgeOk, edgeAt, costsAt, addEdge, edgesAt, badTask, partsAt, taskAt, putCosts, badTable, withTask, tasksAt, tableAt, refused, ending, read}
+use Rattle.table.specs.Writing.{bytes4}
+use Rattle.verdict.specs.Verdicts.{vol, len, roundedUp, due, margin, naming, verdictOn, unread, verdictRead, verdict}
+use Rattle.machine.specs.States.{idle, activity, isLive, waitOf, deadlineOf, live, wait, deadline, remaining, wrap, ticksLeft, left, zeros, unopened, openRead, opening}
+use Rattle.machine.specs.Fitting.{clear, nothingLeft, zeroTaskIn, withinCost, wholeBehind, fitsLive, fitsIdle, fitsTask, fitsPhase, fits}
+use Rattle.machine.specs.Steps.{released, available, availables, before, insert, ranked, ownChoice, Legal, withWait, worked, finishes, ended, finished, missed}
+use Rattle.machine.specs.Ticking.{nobody, pairOf, runList, ticked, judged, advanceTo, advance, refuse, whenRunning, tickOn, tickRead, tickBy, tick}
+use Rattle.graph.specs.Words.{flag}
+use Rattle.graph.proofs.Facts.{past-end, all-at}
+use Rattle.examples.specs.Examples.{fileA}
+use Rattle.promise.specs.Demand3.{tableOf, tickAt, stateAt, midAt, Sporadic}
+use Rattle.examples.specs.Witness.{someClock, roundReleases, roundChoices, someReleases, someChoices, availableAt, ownAt, Witness}
+use Rattle.promise.proofs.Holds.{demand3}
+use Rattle.examples.proofs.Tests.{every, distinct, legalAmong, legalTest, walk, all-legal, namesTasks, apartAt, spacedTest, is-sporadic}
+
+-- all that is computed of the run: each choice is legal, releases are spaced, the verdict, how often each task is released,
+-- a vertex that is passed over, and one that the machine would have chosen
+record Computed : Type 0 where
+  walks : walk fileA someClock someReleases someChoices (tableOf fileA) 30 0 (stateAt fileA someClock someReleases someChoices 0) ≡ true
+  spaced : spacedTest (tableOf fileA) someReleases 30 ≡ true
+  accepted : verdict fileA .number ≡ 0
+  tight : verdict fileA .margin ≡ pos 0
+  small : T (ltb someClock (2 ^ 32))
+  wraps : T (ltb (2 ^ 32) (someClock + 30))
+  many : length (roundReleases ++ roundReleases ++ take 4 roundReleases) ≡ 30
+  often : all (tableOf fileA .n) (λ i. leb 3 (sum 30 (λ x. flag (bit (someReleases x) i)))) ≡ true
+  passed-over : (isIn 0 (availableAt 0) ≡ true) × (isIn 0 (someChoices 0) ≡ false)
+  otherwise : (isIn 16 (ownAt 6) ≡ true) × (isIn 16 (someChoices 6) ≡ false)
+
+computed : Computed
+unfolding bit sum all rowFrom row largest alsoIf those thoseBelow lowest isIn anyOf isNone setOf joinFrom inOrder firstOr lowestOr edge ledTo sweep sweeps acyclicAmong acyclic oneMore longestFrom maximum longest noSucc noCosts zeroTask noTasks noRow noTable noTask task vertices D Memory.T succ edgeIn cost number place field markAt ranged byteAt value4 ticksAt notUnder periodAt edgeOk edgeAt costsAt addEdge edgesAt badTask partsAt taskAt putCosts badTable withTask tasksAt tableAt refused ending read bytes4 vol len roundedUp due margin naming verdictOn unread verdictRead verdict idle activity isLive waitOf deadlineOf live wait deadline remaining wrap ticksLeft left zeros unopened openRead opening clear nothingLeft zeroTaskIn withinCost wholeBehind fitsLive fitsIdle fitsTask fitsPhase fits released available availables before insert ranked ownChoice withWait worked finishes ended finished missed nobody pairOf runList ticked judged advanceTo advance refuse whenRunning tickOn tickRead tickBy tick fileA flag tableOf tickAt stateAt midAt someClock roundReleases roundChoices someReleases someChoices every distinct legalAmong legalTest walk namesTasks apartAt spacedTest
+computed = record {
+  walks = refl;
+  spaced = refl;
+  accepted = refl;
+  tight = refl;
+  small = tt;
+  wraps = tt;
+  many = refl;
+  often = refl;
+  passed-over = (refl, refl);
+  otherwise = (refl, refl);
+}
+
+-- nothing is released past the 30 ticks
+none-later : (x : ℕ) → 30 ≤ x → someReleases x ≡ 0
+unfolding someReleases
+none-later x h = past-end (roundReleases ++ roundReleases ++ take 4 roundReleases) x 0 (omega (arith, computed .many))
+
+pub witness : Witness
+witness = record {
+  accepted = computed .accepted;
+  small = ltb→lt someClock (2 ^ 32) (computed .small);
+  sporadic = sporadic;
+  legal = legal;
+  kept = demand3 fileA (computed .accepted) someClock (ltb→lt someClock (2 ^ 32) (computed .small)) someReleases sporadic someChoices 30 legal;
+  tight = computed .tight;
+  wraps = ltb→lt (2 ^ 32) (someClock + 30) (computed .wraps);
+  often = λ i b. leb-true 3 _ (all-at (tableOf fileA .n) _ (computed .often) i b);
+  passed-over = computed .passed-over;
+  otherwise = computed .otherwise;
+}
+  where
+    sporadic : Sporadic (tableOf fileA) someReleases
+    sporadic = is-sporadic (tableOf fileA) someReleases 30 none-later (computed .spaced)
+
+    legal : (x : ℕ) → x < 30 → Legal (tableOf fileA) (midAt fileA someClock someReleases someChoices x) (someChoices x)
+    legal = all-legal fileA someClock someReleases someChoices 30 (computed .walks)

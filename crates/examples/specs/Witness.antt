@@ -1,0 +1,58 @@
+-- DEMAND 3 IS NOT EMPTY: a file whose smallest margin is 0, a clock that wraps, and a run of 30 ticks that meets all that the
+-- demand asks, in which choices differ from the machine's own.
+use mathlib.Core.Path.{_≡_}
+use mathlib.Core.Bool.{true, false}
+use mathlib.Core.List.{List, [], _∷_, _++_}
+use Prim.Native.Nat.{ℕ, _+_, _^_, _≤_, _<_}
+use lib.ListN.{getD, take}
+use lib.IntN.{pos}
+use Rattle.graph.specs.Words.{bit, sum, flag, isIn}
+use Rattle.verdict.specs.Verdicts.{verdict}
+use Rattle.machine.specs.Steps.{availables, ownChoice, Legal}
+use Rattle.promise.specs.Demand3.{tableOf, tickAt, stateAt, midAt, Sporadic, Kept}
+use Rattle.examples.specs.Examples.{fileA}
+
+-- six ticks before the clock's round is full
+unfoldable pub someClock : ℕ
+someClock = 4294967290
+
+-- thirteen ticks of a run: both tasks are released at the first, task 1 again at the seventh
+unfoldable pub roundReleases : List ℕ
+roundReleases = 3 ∷ 0 ∷ 0 ∷ 0 ∷ 0 ∷ 0 ∷ 2 ∷ 0 ∷ 0 ∷ 0 ∷ 0 ∷ 0 ∷ 0 ∷ []
+
+-- what each tick chooses, of equal ticks left the higher vertex first; at the seventh task 1's vertex 1, 17, passes vertex 0, 16
+unfoldable pub roundChoices : List (List ℕ)
+roundChoices =
+    (17 ∷ 16 ∷ []) ∷ (17 ∷ 16 ∷ []) ∷ (0 ∷ []) ∷ (0 ∷ []) ∷ (2 ∷ 1 ∷ []) ∷ (1 ∷ [])
+    ∷ (1 ∷ 17 ∷ []) ∷ (17 ∷ 16 ∷ []) ∷ (16 ∷ []) ∷ [] ∷ [] ∷ [] ∷ [] ∷ []
+
+-- twice that, and the first four ticks of a third time; from tick 30 on nothing is released
+unfoldable pub someReleases : ℕ → ℕ
+someReleases x = getD (roundReleases ++ roundReleases ++ take 4 roundReleases) x 0
+
+unfoldable pub someChoices : ℕ → List ℕ
+someChoices x = getD (roundChoices ++ roundChoices ++ take 4 roundChoices) x []
+
+-- the vertices available within tick x, and what the machine itself would choose
+abbrev pub availableAt : ℕ → List ℕ
+availableAt x = availables (tableOf fileA) (midAt fileA someClock someReleases someChoices x)
+
+abbrev pub ownAt : ℕ → List ℕ
+ownAt x = ownChoice (tableOf fileA) (midAt fileA someClock someReleases someChoices x)
+
+pub record Witness : Type 0 where
+  -- what the demand asks: an accepted file, a clock, releases that are spaced, and legal choices
+  pub accepted : verdict fileA .number ≡ 0
+  pub small : someClock < 2 ^ 32
+  pub sporadic : Sporadic (tableOf fileA) someReleases
+  pub legal : (x : ℕ) → x < 30 → Legal (tableOf fileA) (midAt fileA someClock someReleases someChoices x) (someChoices x)
+  -- what it promises
+  pub kept : (x : ℕ) → x < 30 → Kept (tableOf fileA) (tickAt fileA someClock someReleases someChoices x (stateAt fileA someClock someReleases someChoices x)) (midAt fileA someClock someReleases someChoices x)
+  -- that it is no idle run: the margin is 0, the clock wraps, each task is released three times or more
+  pub tight : verdict fileA .margin ≡ pos 0
+  pub wraps : 2 ^ 32 < someClock + 30
+  pub often : (i : ℕ) → i < tableOf fileA .n → 3 ≤ sum 30 (λ x. flag (bit (someReleases x) i))
+  -- in tick 0 vertex 0 of task 0, which is available, is passed over
+  pub passed-over : (isIn 0 (availableAt 0) ≡ true) × (isIn 0 (someChoices 0) ≡ false)
+  -- in tick 6 the machine would choose task 1's vertex 0, 16; the run chooses another with as many ticks left
+  pub otherwise : (isIn 16 (ownAt 6) ≡ true) × (isIn 16 (someChoices 6) ≡ false)

@@ -1,0 +1,6 @@
+-- A test of each number below n, and the vertices with an unfinished direct predecessor as a set.
+pub mod Behind
+-- The cases that the code tells apart, each with what the rules say of it.
+pub mod Cases
+-- Each public contract allows one result.
+pub mod Unique

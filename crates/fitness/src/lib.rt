@@ -1,0 +1,157 @@
+// Which numbers of a task fit, clause by clause. The rules are in specs/Fitness.antt.
+ghost use mathlib.Core.Path.{_≡_};
+ghost use mathlib.Core.Bool.{_||_, not};
+ghost use Prim.Native.Nat.{ℕ, _≤_, _<_, min};
+ghost use lib.Dec.{eqb};
+ghost use Rattle.graph.specs.Words.{bit, all};
+ghost use Rattle.graph.specs.Graph.{edge};
+ghost use Rattle.fitness.specs.Fitness.{at, nothingLeft, withinCost, liveFits, idleFits, zeroTask, taskFits};
+use table::Task;
+
+// Whether nothing remains of task i.
+pub fn nothing_left(remaining: &[u32; 256], i: usize) -> bool
+    ensures { λ r. ⌜ r ≡ nothingLeft (now (remaining .entry)) i ⌝ }
+{
+    if i >= 16 {
+        return true;
+    }
+    for u in 0..16usize {
+        if remaining[16 * i + u] != 0 {
+            return false;
+        }
+    }
+    true
+}
+
+// A task of zeros: not live, no wait, and nothing remains.
+pub fn zero_task(live: bool, wait: u32, remaining: &[u32; 256], i: usize) -> bool
+    ensures { λ r. ⌜ r ≡ zeroTask live wait (now (remaining .entry)) i ⌝ }
+{
+    if live {
+        return false;
+    }
+    if wait != 0 {
+        return false;
+    }
+    nothing_left(remaining, i)
+}
+
+// No remaining above its cost.
+fn within_cost(costs: &[u32; 256], remaining: &[u32; 256], i: usize) -> bool
+    requires { ⌜ i < 16 ⌝ }
+    ensures { λ r. ⌜ r ≡ withinCost (now (costs .entry)) (now (remaining .entry)) i ⌝ }
+{
+    for u in 0..16usize {
+        let k = 16 * i + u;
+        if remaining[k] > costs[k] {
+            return false;
+        }
+    }
+    true
+}
+
+// How many of the sixteen vertices are used.
+fn used(v: u8) -> usize
+    ensures { λ r. ⌜ r ≡ min v 16 ⌝ }
+{
+    if v < 16 {
+        return v as usize;
+    }
+    16
+}
+
+// The vertices with an unfinished direct predecessor, among v vertices.
+fn blocked(succ: [u16; 16], v: usize, remaining: &[u32; 256], i: usize) -> u16
+    requires { ⌜ (i < 16) × (v ≤ 16) ⌝ }
+    ensures { λ r. ⌜ ((u : ℕ) → bit r u ≡ not (all v (λ w. not (edge succ w u) || eqb (at (now (remaining .entry)) i w) 0))) ⌝ }
+{
+    let mut behind: u16 = 0;
+    for w in 0..v {
+        if remaining[16 * i + w] != 0 {
+            behind |= succ[w];
+        }
+    }
+    behind
+}
+
+// Each of the first v vertices that is in a set has its whole cost remaining.
+fn whole_in(set: u16, v: usize, costs: &[u32; 256], remaining: &[u32; 256], i: usize) -> bool
+    requires { ⌜ (i < 16) × (v ≤ 16) ⌝ }
+    ensures { λ r. ⌜ r ≡ all v (λ u. not (bit set u) || eqb (at (now (remaining .entry)) i u) (at (now (costs .entry)) i u)) ⌝ }
+{
+    for u in 0..v {
+        let k = 16 * i + u;
+        if (set >> u) % 2 == 1 && remaining[k] != costs[k] {
+            return false;
+        }
+    }
+    true
+}
+
+// A live task with these ticks left and this wait.
+fn fits_live(
+    a: Task,
+    costs: &[u32; 256],
+    ticks: u32,
+    waits: u32,
+    remaining: &[u32; 256],
+    i: usize,
+) -> bool
+    requires { ⌜ i < 16 ⌝ }
+    ensures { λ r. ⌜ r ≡ liveFits a (now (costs .entry)) ticks waits (now (remaining .entry)) i ⌝ }
+{
+    if ticks < 1 {
+        return false;
+    }
+    if ticks >= a.d {
+        return false;
+    }
+    if (waits as u64) + (a.d as u64) != (a.t as u64) + (ticks as u64) {
+        return false;
+    }
+    if !within_cost(costs, remaining, i) {
+        return false;
+    }
+    if nothing_left(remaining, i) {
+        return false;
+    }
+    let v = used(a.v);
+    let succ = a.succ;
+    let behind = blocked(succ, v, remaining, i);
+    whole_in(behind, v, costs, remaining, i)
+}
+
+// An idle task: nothing remains, and its wait is below its period.
+fn fits_idle(period: u32, waits: u32, remaining: &[u32; 256], i: usize) -> bool
+    ensures { λ r. ⌜ r ≡ idleFits period waits (now (remaining .entry)) i ⌝ }
+{
+    if !nothing_left(remaining, i) {
+        return false;
+    }
+    waits < period
+}
+
+// Task i of n tasks: live, idle or not used.
+pub fn fits_task(
+    n: usize,
+    a: Task,
+    costs: &[u32; 256],
+    live: bool,
+    ticks: u32,
+    waits: u32,
+    remaining: &[u32; 256],
+    i: usize,
+) -> bool
+    ensures { λ r. ⌜ r ≡ taskFits n a (now (costs .entry)) live ticks waits (now (remaining .entry)) i ⌝ }
+{
+    if n <= i {
+        return zero_task(live, waits, remaining, i);
+    }
+    if !live {
+        return fits_idle(a.t, waits, remaining, i);
+    }
+    if i >= 16 {
+        return false;
+    }
+    fits_live(a, costs, ticks, waits, remaining, i)
+}

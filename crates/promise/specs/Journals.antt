@@ -1,0 +1,31 @@
+-- Document 02, M-100: "Demand 3 then says: an accepted table with an accepted journal has no miss." Proved in proofs/Journals.antt.
+use mathlib.Core.Path.{_≡_}
+use mathlib.Core.Bool.{false}
+use mathlib.Core.List.{List, [], _∷_}
+use Prim.Native.Nat.{ℕ, _^_, _<_}
+use lib.ListN.{getD}
+use Rattle.verdict.specs.Verdicts.{verdict}
+use Rattle.machine.specs.declared.State.{State}
+use Rattle.machine.specs.States.{opening}
+use Rattle.journal.specs.Judging.{judge}
+use Rattle.journal.specs.Runs.{Tick, tickWith, answerOf, LegalFrom}
+
+-- each tick of a run is answered 0
+unfoldable pub EachAnswered0 : List ℕ → State → List Tick → Type 0
+EachAnswered0 file st [] = Unit {0}
+EachAnswered0 file st (x ∷ xs) = (answerOf (tickWith file st x) ≡ 0) × EachAnswered0 file (tickWith file st x .state) xs
+
+-- for every legal run of an accepted table, from an idle machine at any clock: no tick of it misses
+abbrev pub NoMissInRuns : Type 0
+NoMissInRuns =
+    (file : List ℕ) → verdict file .number ≡ 0
+    → (clock : ℕ) → clock < 2 ^ 32
+    → (run : List Tick) → LegalFrom file clock run
+    → EachAnswered0 file (opening file clock .state) run
+
+-- so for every journal, a list of bytes
+abbrev pub NoMissInJournals : Type 0
+NoMissInJournals =
+    (file s : List ℕ) → ((k : ℕ) → getD s k 0 < 2 ^ 8)
+    → verdict file .number ≡ 0 → judge file s .number ≡ 0
+    → judge file s .missed ≡ false
