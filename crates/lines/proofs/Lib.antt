@@ -1,6 +1,9 @@
 -- THE LINES: their length; the first 5,061 bytes of a table are enough.
 pub mod Length
+pub mod TypedAnswers
 pub mod Held
+-- THE EXAMPLES: P9 to P12 as they are shown, computed.
+pub mod Computed
 -- THE CODE: laws that its proofs cite.
 pub mod Parted
 pub mod Lined
