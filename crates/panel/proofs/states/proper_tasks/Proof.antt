@@ -7,7 +7,7 @@ use lib.ListN.{getD}
 use borrow.Author.Needs.{needs}
 use borrow.Author.Tests.{not-true, not-false}
 use Rattle.graph.specs.Words.{all}
-use Rattle.machine.proofs.Behind.{all-more, all-off, all-done}
+use Rattle.fitness.proofs.Behind.{all-more, all-off, all-done}
 use Rattle.panel.specs.States.{noFaceTask, faceTaskAt, properTask}
 use Rattle.panel.proofs.states.proper_tasks.Statement.{statement}
 use Rattle.panel.proofs.states.proper_tasks.Tie as tie
