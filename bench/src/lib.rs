@@ -1,5 +1,7 @@
 //! Tables of the sizes that are measured, and runs of them.
 
+pub mod plain;
+pub mod plain_check;
 pub mod ticking;
 
 use second::random::{random_edges, ticks, Random};

@@ -1,8 +1,9 @@
-//! Reads, writes, verdicts, reports, openings and ticks a second, ours beside the second program's: the same inputs in one run, the sides in turn, so that other load
-//! falls on both. Buffers are not cleared in between. The ratio is ours over theirs: above 1, ours is the quicker.
+//! Reads, writes, verdicts, reports, openings and ticks a second: ours beside the second program's and beside plain C's. The same inputs in one run,
+//! the sides in turn, so that other load falls on all. Buffers are not cleared in between. A ratio is ours over theirs: above 1,
+//! ours is the quicker.
 
 use bench::ticking::{Load, Runs};
-use bench::{accepted, sizes, Size};
+use bench::{accepted, plain, plain_check, sizes, Size};
 use compare::face;
 use second::random::{file, Random};
 use second::table::LARGEST;
@@ -11,66 +12,67 @@ use std::hint::black_box;
 use std::time::Instant;
 
 const INPUTS: usize = 64;
-/// Turns of each side; a turn takes about `TURN` seconds.
-const TURNS: usize = 151;
-const TURN: f64 = 0.004;
+/// Turns of each side; a turn of the slowest takes about `TURN` seconds or once through all inputs, so that most turns of every side
+/// are not interrupted.
+const TURNS: usize = 301;
+const TURN: f64 = 0.0015;
 
-/// What both sides do with input k.
+/// What a side does with input k.
 type Work<'a> = Box<dyn FnMut(usize) + 'a>;
 
 fn main() {
     let seed = 1;
+    let sizes = sizes(&mut Random::new(seed), INPUTS);
+    let inputs: Vec<Table> = sizes.iter().flat_map(|s| s.tables.clone()).collect();
+    let good: Vec<Table> = sizes.iter().flat_map(good_tables).collect();
+    plain_check::check(&[inputs, good].concat());
+    println!("a second, the best of {TURNS} turns; ours over each, and the median of that over the turns");
     println!(
-        "{:<58}{:>16}{:>18}{:>8}{:>16}",
-        "", "ours a second", "theirs a second", "ratio", "median of turns"
+        "{:<58}{:>10}{:>10}{:>10}{:>16}{:>16}",
+        "", "ours", "second", "plain C", "ours/second", "ours/plain C"
     );
-    for size in sizes(&mut Random::new(seed), INPUTS) {
-        reading(&size);
-        writing(&size);
-        judging(&size);
-        reporting(&size);
-        opening(&size);
-        ticking(&size, Load::One);
-        ticking(&size, Load::All);
+    for size in &sizes {
+        reading(size);
+        writing(size);
+        judging(size);
+        reporting(size);
+        opening(size);
+        ticking(size, Load::One);
+        ticking(size, Load::All);
     }
 }
 
 fn reading(size: &Size) {
     let files: Vec<Vec<u8>> = size.tables.iter().map(file).collect();
+    let mut table = plain::no_table();
     let ours = |k: usize| {
         black_box(face::read(black_box(&files[k])));
     };
-    let theirs = |k: usize| {
+    let second = |k: usize| {
         black_box(second::read(black_box(&files[k])));
     };
-    measure(
-        &format!("read    {}", size.name),
-        Box::new(ours),
-        Box::new(theirs),
-    );
+    let plain = |k: usize| {
+        black_box(plain::read(black_box(&files[k]), black_box(&mut table)));
+    };
+    let sides: [Work; 3] = [Box::new(ours), Box::new(second), Box::new(plain)];
+    measure(&format!("read    {}", size.name), sides);
 }
 
 fn writing(size: &Size) {
     let tables: Vec<face::Table> = size.tables.iter().map(face::Table::from).collect();
-    let mut ours_into = [0u8; LARGEST];
-    let mut theirs_into = [0u8; LARGEST];
+    let (mut a, mut b, mut c) = ([0u8; LARGEST], [0u8; LARGEST], [0u8; LARGEST]);
     let ours = |k: usize| {
-        black_box(face::write(
-            *black_box(&tables[k]),
-            black_box(&mut ours_into),
-        ));
+        black_box(face::write(*black_box(&tables[k]), black_box(&mut a)));
     };
-    let theirs = |k: usize| {
-        black_box(second::write(
-            black_box(&size.tables[k]),
-            black_box(&mut theirs_into),
-        ));
+    let second = |k: usize| {
+        let into = black_box(&mut b);
+        black_box(second::write(black_box(&size.tables[k]), into));
     };
-    measure(
-        &format!("write   {}", size.name),
-        Box::new(ours),
-        Box::new(theirs),
-    );
+    let plain = |k: usize| {
+        black_box(plain::write(black_box(&tables[k]), black_box(&mut c)));
+    };
+    let sides: [Work; 3] = [Box::new(ours), Box::new(second), Box::new(plain)];
+    measure(&format!("write   {}", size.name), sides);
 }
 
 /// Tables that the verdict accepts.
@@ -80,90 +82,98 @@ fn good_tables(size: &Size) -> Vec<Table> {
     tables.collect()
 }
 
-fn good_files(size: &Size) -> Vec<Vec<u8>> {
-    good_tables(size).iter().map(file).collect()
-}
-
 fn judging(size: &Size) {
-    let files = good_files(size);
+    let files: Vec<Vec<u8>> = good_tables(size).iter().map(file).collect();
     let ours = |k: usize| {
         black_box(face::verdict(black_box(&files[k])));
     };
-    let theirs = |k: usize| {
+    let second = |k: usize| {
         black_box(second::verdict(black_box(&files[k])));
     };
-    measure(
-        &format!("verdict {}", size.name),
-        Box::new(ours),
-        Box::new(theirs),
-    );
+    let plain = |k: usize| {
+        black_box(plain::verdict(black_box(&files[k])));
+    };
+    let sides: [Work; 3] = [Box::new(ours), Box::new(second), Box::new(plain)];
+    measure(&format!("verdict {}", size.name), sides);
 }
 
-/// Theirs makes its text on the heap.
+/// The second program makes its text on the heap.
 fn reporting(size: &Size) {
-    let files = good_files(size);
-    let mut into = [0u8; face::REPORT_MOST];
+    let files: Vec<Vec<u8>> = good_tables(size).iter().map(file).collect();
+    let (mut a, mut c) = ([0u8; face::REPORT_MOST], [0u8; face::REPORT_MOST]);
     let ours = |k: usize| {
-        black_box(face::report(black_box(&files[k]), black_box(&mut into)));
+        black_box(face::report(black_box(&files[k]), black_box(&mut a)));
     };
-    let theirs = |k: usize| {
+    let second = |k: usize| {
         black_box(second::report(black_box(&files[k])));
     };
-    measure(
-        &format!("report  {}", size.name),
-        Box::new(ours),
-        Box::new(theirs),
-    );
+    let plain = |k: usize| {
+        black_box(plain::report(black_box(&files[k]), black_box(&mut c)));
+    };
+    let sides: [Work; 3] = [Box::new(ours), Box::new(second), Box::new(plain)];
+    measure(&format!("report  {}", size.name), sides);
 }
 
 fn opening(size: &Size) {
-    let files = good_files(size);
+    let files: Vec<Vec<u8>> = good_tables(size).iter().map(file).collect();
+    let mut state = face::open(&files[0], 0).state;
     let ours = |k: usize| {
         black_box(face::open(black_box(&files[k]), 0));
     };
-    let theirs = |k: usize| {
+    let second = |k: usize| {
         black_box(second::open(black_box(&files[k]), 0));
     };
-    measure(
-        &format!("open    {}", size.name),
-        Box::new(ours),
-        Box::new(theirs),
-    );
+    let plain = |k: usize| {
+        black_box(plain::open(black_box(&files[k]), 0, black_box(&mut state)));
+    };
+    let sides: [Work; 3] = [Box::new(ours), Box::new(second), Box::new(plain)];
+    measure(&format!("open    {}", size.name), sides);
 }
 
-/// The same runs on both sides. Theirs keeps the machine's own state, so that it has nothing to set out as numbers.
+/// The same runs on all sides. The second program keeps the machine's own state, so that it has nothing to set out as numbers;
+/// plain C moves the state on where it stands, ours takes it and gives it back.
 fn ticking(size: &Size, load: Load) {
     let tables = good_tables(size);
-    let files = good_files(size);
+    let files: Vec<Vec<u8>> = tables.iter().map(file).collect();
     let mut ours = Runs::new(&files, &tables, load, |file| face::open(file, 0).state);
-    let mut theirs = Runs::new(&files, &tables, load, |file| second::open(file, 0).state);
-    measure(
-        &format!("tick    {}, {}", size.name, load.name()),
+    let mut second = Runs::new(&files, &tables, load, |file| second::open(file, 0).state);
+    let mut plain = Runs::new(&files, &tables, load, |file| face::open(file, 0).state);
+    let sides: [Work; 3] = [
         Box::new(|k| ours.tick(black_box(k))),
-        Box::new(|k| theirs.tick(black_box(k))),
-    );
-    assert!(theirs.agree(&ours), "the runs differ");
+        Box::new(|k| second.tick(black_box(k))),
+        Box::new(|k| plain.tick_plain(black_box(k))),
+    ];
+    measure(&format!("tick    {}, {}", size.name, load.name()), sides);
+    assert!(second.agree(&ours), "the runs differ");
+    assert!(second.agree(&plain), "the runs in plain C differ");
 }
 
-/// Prints a line: the best turn of each side, their ratio, and the median of the ratios of turns side by side.
-fn measure(name: &str, mut ours: Work, mut theirs: Work) {
-    let times = (TURN / turn(&mut ours, 1)).ceil() as usize;
-    turn(&mut theirs, 1);
-    let mut turns: Vec<(f64, f64)> = Vec::new();
-    for _ in 0..TURNS {
-        turns.push((turn(&mut ours, times), turn(&mut theirs, times)));
+/// Prints a line: the best turn of each side, and ours over each of the others.
+fn measure(name: &str, mut sides: [Work; 3]) {
+    let once = (0..3).map(|_| sides.each_mut().map(|side| turn(side, 1)));
+    let slowest = |t: [f64; 3]| t.into_iter().fold(0.0, f64::max);
+    let times = (TURN / once.map(slowest).fold(f64::INFINITY, f64::min)).ceil() as usize;
+    let mut turns = vec![[0.0; 3]; TURNS];
+    for (at, taken) in turns.iter_mut().enumerate() {
+        // Each side goes first in turn.
+        for side in (0..3).map(|k| (at + k) % 3) {
+            taken[side] = turn(&mut sides[side], times);
+        }
     }
-    let done = (times * INPUTS) as f64;
-    let best = |side: fn(&(f64, f64)) -> f64| turns.iter().map(side).fold(f64::INFINITY, f64::min);
-    let (a, b) = (best(|t| t.0), best(|t| t.1));
-    let mut ratios: Vec<f64> = turns.iter().map(|t| t.1 / t.0).collect();
-    ratios.sort_by(f64::total_cmp);
+    let best = |side: usize| turns.iter().map(|t| t[side]).fold(f64::INFINITY, f64::min);
+    let rate = |side: usize| (times * INPUTS) as f64 / best(side);
+    let over = |side: usize| {
+        let mut ratios: Vec<f64> = turns.iter().map(|t| t[side] / t[0]).collect();
+        ratios.sort_by(f64::total_cmp);
+        format!("{:.2} ({:.2})", best(side) / best(0), ratios[TURNS / 2])
+    };
     println!(
-        "{name:<58}{:>16.0}{:>18.0}{:>8.2}{:>16.2}",
-        done / a,
-        done / b,
-        b / a,
-        ratios[TURNS / 2]
+        "{name:<58}{:>10.0}{:>10.0}{:>10.0}{:>16}{:>16}",
+        rate(0),
+        rate(1),
+        rate(2),
+        over(1),
+        over(2)
     );
 }
 

@@ -1,8 +1,10 @@
 //! Runs of the machine that are measured: each table has its own, from opening on, and a tick goes on from the state before.
 
+use crate::plain;
 use compare::face;
 use second::flat::FlatState;
 use second::{State, Table};
+use std::hint::black_box;
 
 /// How many of a table's tasks are released, each whenever it may be.
 #[derive(Clone, Copy)]
@@ -60,6 +62,13 @@ impl Runs<'_, face::State> {
         let state = &mut self.states[k];
         let releases = ready(self.tasks[k], |i| state.tasks[i].wait);
         *state = face::tick(&self.files[k], *state, releases).state;
+    }
+
+    /// The same by plain C, where the state stands.
+    pub fn tick_plain(&mut self, k: usize) {
+        let state = &mut self.states[k];
+        let releases = ready(self.tasks[k], |i| state.tasks[i].wait);
+        black_box(plain::tick(&self.files[k], state, releases));
     }
 }
 

@@ -7,6 +7,7 @@ pub mod opening;
 pub mod reading;
 pub mod reporting;
 pub mod running;
+pub mod telling;
 pub mod ticking;
 pub mod writing;
 

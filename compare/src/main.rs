@@ -1,9 +1,9 @@
 //! Runs every comparison on fresh random inputs. The seed is printed; a difference is written to a file and ends the run.
 
-use compare::comparison::{Comparison, Difference, NUMBERS};
+use compare::comparison::{Comparison, NUMBERS};
+use compare::telling::{counts, missing, tell};
 use compare::COMPARISONS;
 use second::random::Random;
-use std::path::Path;
 use std::process::ExitCode;
 use std::time::{Instant, SystemTime, UNIX_EPOCH};
 
@@ -11,9 +11,6 @@ const USAGE: &str = "compare [--seed X] [--inputs N] [--only NAME]
     X   seed of the first input, from the clock where it is not given; the input after it has X + 1
     N   inputs of a comparison, 200,000 where it is not given; openings get a half of them, reports a quarter, runs an eighth
 ";
-
-/// From this many inputs on, each number that must be met has to be met.
-const LONG: u64 = 100_000;
 
 struct Wanted {
     seed: u64,
@@ -83,45 +80,18 @@ fn run(comparison: &Comparison, wanted: &Wanted) -> bool {
             }
         }
     }
-    let each: Vec<String> = (0..NUMBERS)
-        .filter(|number| met[*number] > 0)
-        .map(|number| format!("{number}:{}", met[number]))
-        .collect();
     println!(
         "{}: {} inputs equal in {:.1} s; number:count {}",
         comparison.name,
         inputs,
         start.elapsed().as_secs_f64(),
-        each.join(" ")
+        counts(&met)
     );
-    let missing = |number: &&u8| met[usize::from(**number)] == 0;
-    match comparison.must_meet.iter().find(missing) {
-        Some(number) if wanted.inputs >= LONG => {
+    match missing(comparison, wanted.inputs, &met) {
+        Some(number) => {
             eprintln!("{}: no input was answered {number}", comparison.name);
             false
         }
-        _ => true,
+        None => true,
     }
-}
-
-/// Says where the sides differ, and keeps the input and both answers in a file.
-fn tell(name: &str, seed: u64, difference: &Difference) {
-    let again = format!("compare --only {name} --seed {seed} --inputs 1");
-    let text = format!(
-        "{name}, seed {seed}; again by: {again}\ninput {}\nours {}\ntheirs {}\n",
-        difference.input, difference.ours, difference.theirs
-    );
-    let file = format!("target/compare/{name}-{seed}.txt");
-    let kept = match keep(&file, &text) {
-        Ok(()) => file,
-        Err(error) => format!("{file}: {error}\n{text}"),
-    };
-    eprintln!("{name}: the sides differ on seed {seed}: {kept}");
-}
-
-/// Writes a file of the repository, whatever the folder that this runs in.
-fn keep(file: &str, text: &str) -> std::io::Result<()> {
-    let whole = Path::new(env!("CARGO_MANIFEST_DIR")).join("..").join(file);
-    std::fs::create_dir_all(whole.parent().unwrap_or(Path::new(".")))?;
-    std::fs::write(whole, text)
 }

@@ -1,10 +1,12 @@
-//! A second program for job tables: reader, writer, verdict, report and tick
-//! machine, written from document 01 alone, to be compared with the first.
+//! A second program for job tables: reader, writer, verdict, report, tick
+//! machine and judge of journals, written from documents 01 and 02 alone, to be
+//! compared with the first.
 
 pub mod examples;
 pub mod explore;
 pub mod flat;
 pub mod graph;
+pub mod judge;
 pub mod legal;
 pub mod machine;
 pub mod random;
@@ -14,11 +16,14 @@ pub mod sum;
 pub mod table;
 pub mod vectors;
 pub mod verdict;
+pub mod watch;
 pub mod writer;
 
+pub use judge::{judge, Ruling};
 pub use machine::{open, tick, tick_in_place, Opened, State, Ticked};
 pub use reader::{read, read_at, Core, Read};
 pub use report::report;
 pub use table::{Table, Task};
 pub use verdict::{verdict, Verdict};
+pub use watch::watch;
 pub use writer::write;

@@ -2,11 +2,15 @@
 
 mod bytes;
 mod flat;
+mod journals;
+mod runs;
 mod states;
 mod tables;
 
 pub use bytes::*;
 pub use flat::*;
+pub use journals::*;
+pub use runs::*;
 pub use states::*;
 pub use tables::*;
 

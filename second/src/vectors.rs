@@ -1,14 +1,23 @@
 //! Recorded vectors: streams of cases, and the answers in text.
 
+mod journals;
 mod read_cases;
+mod verdict_cases;
+mod verdicts;
+mod watch_cases;
 mod write_cases;
 
+pub use journals::*;
 pub use read_cases::read_cases;
+pub use verdict_cases::verdict_cases;
+pub use verdicts::*;
+pub use watch_cases::watch_cases;
 pub use write_cases::write_cases;
 
 use crate::reader::read;
 use crate::sum::{fnv, table_sum};
 use crate::table::*;
+use crate::watch::watch;
 use crate::writer::write;
 
 /// What the buffer holds before a write.
@@ -74,7 +83,7 @@ pub struct WriteCase {
     pub buffer: u16,
 }
 
-/// The stream of cases for the reader.
+/// The stream of cases for the reader, or for the watch program.
 pub fn read_stream(cases: &[Vec<u8>]) -> Vec<u8> {
     let mut out = Vec::new();
     for case in cases {
@@ -162,6 +171,36 @@ pub fn answer_writes(stream: &[u8]) -> Option<Vec<Expected>> {
             number,
             place,
             sum: fnv(&buffer),
+        });
+    }
+    Some(answers)
+}
+
+/// One line of an answer for the watch program: how many lines it shows, and
+/// their checksum.
+#[derive(Clone, Copy, PartialEq, Eq, Debug)]
+pub struct Shown {
+    pub lines: usize,
+    pub sum: u32,
+}
+
+/// The text of answers for the watch program: LINES SUM, a line a case.
+pub fn shown_text(answers: &[Shown]) -> String {
+    let lines = answers
+        .iter()
+        .map(|answer| format!("{} {}\n", answer.lines, answer.sum));
+    lines.collect()
+}
+
+/// Answers a stream of cases for the watch program; None if it is malformed.
+pub fn answer_watches(stream: &[u8]) -> Option<Vec<Shown>> {
+    let mut rest = stream;
+    let mut answers = Vec::new();
+    while !rest.is_empty() {
+        let text = watch(take_bytes(&mut rest)?);
+        answers.push(Shown {
+            lines: text.iter().filter(|byte| **byte == 10).count(),
+            sum: fnv(&text),
         });
     }
     Some(answers)

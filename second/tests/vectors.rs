@@ -81,3 +81,54 @@ fn checksums() {
     assert_eq!(canonical(&Table::ZERO), [0; CANONICAL]);
     assert_eq!(CANONICAL, 1_682);
 }
+
+#[test]
+fn cases_for_the_verdict() {
+    let cases = verdict_cases(1);
+    let stream = verdict_stream(&cases);
+    let answers = answer_verdicts(&stream).unwrap();
+    assert_eq!(answers.len(), cases.len());
+    assert!(stream.len() < 150_000 && cases.len() > 3_000);
+    let of = |number| answers.iter().filter(move |a| a.verdict.number == number);
+    let accepted = of(0).count();
+    assert!(accepted > cases.len() * 2 / 5 && accepted < cases.len() * 3 / 5);
+    for number in [0, 20] {
+        for task in 0..16 {
+            assert!(of(number).any(|a| a.verdict.task == task));
+        }
+        let near = of(number).filter(|a| a.verdict.margin.abs() < 10);
+        assert!(near.count() > 300);
+    }
+    for number in 1..=8 {
+        assert!(of(number).count() > 10, "number {number}");
+    }
+    let margins = || answers.iter().map(|a| a.verdict.margin);
+    assert_eq!(margins().min(), Some(-240_000_120_000_000));
+    assert_eq!(margins().max(), Some(7_999_992));
+    for (case, answer) in cases.iter().zip(&answers) {
+        assert_eq!(judged(case), *answer);
+    }
+    assert_eq!(answer_verdicts(&stream[..stream.len() - 1]), None);
+    let first = verdict_text(&answers[..2]);
+    assert_eq!(first, "1 0 255 0 18 1653696668\n0 0 1 0 114 4255783245\n");
+}
+
+#[test]
+fn cases_for_the_judge() {
+    let cases = journal_cases(1);
+    let stream = journal_stream(&cases);
+    let answers = answer_journals(&stream).unwrap();
+    assert_eq!(answers.len(), cases.len());
+    assert!(stream.len() < 250_000 && cases.len() > 1_500);
+    for number in [0, 31, 33, 40, 41, 42, 44, 45, 46, 47] {
+        let count = answers.iter().filter(|a| a.number == number).count();
+        assert!(count > 25, "number {number}: {count}");
+    }
+    assert!(answers.iter().filter(|a| a.missed).count() > 100);
+    for ((file, journal), answer) in cases.iter().zip(&answers) {
+        assert_eq!(second::judge(file, journal), *answer);
+    }
+    assert_eq!(answer_journals(&stream[..stream.len() - 1]), None);
+    let first = journal_text(&answers[..2]);
+    assert_eq!(first, "0 0 0 0 0\n40 0 0 0 0\n");
+}

@@ -1,7 +1,9 @@
 //! The stack that each function of the C face takes, in bytes, measured on the built code: the function runs on a stack painted
 //! with a pattern, and the lowest byte that changed is looked up; the most over many inputs, accepted and refused. The return
-//! address counts; what its caller puts down for it (a table or a state by value) is said beside it.
+//! address counts; what its caller puts down for it (a table or a state by value) is said beside it. Plain C's functions, which get
+//! tables and states by pointer, are measured on the same inputs.
 
+use bench::plain;
 use compare::{face, judging, reading, ticking, writing};
 use second::random::{file, largest_table, Random};
 use second::table::LARGEST;
@@ -59,47 +61,69 @@ fn taken<T>(entry: *const (), words: [usize; 6], put: T) -> usize {
     SPACE - untouched.count()
 }
 
-fn read(r: &mut Random, k: u64) -> usize {
+/// Bytes of stack: ours, and plain C's.
+type Both = [usize; 2];
+
+/// Room for an answer, which goes to memory that the caller names first, as every struct above sixteen bytes.
+fn room<T>() -> (Box<std::mem::MaybeUninit<T>>, usize) {
+    let mut answer = Box::new(std::mem::MaybeUninit::<T>::uninit());
+    let to = answer.as_mut_ptr() as usize;
+    (answer, to)
+}
+
+fn read(r: &mut Random, k: u64) -> Both {
     let bytes = match k {
         0 => file(&largest_table(r)),
         _ => reading::input(r),
     };
-    let mut answer = std::mem::MaybeUninit::<face::ReadAnswer>::uninit();
-    let to = answer.as_mut_ptr() as usize;
-    let words = [to, bytes.as_ptr() as usize, bytes.len(), 0, 0, 0];
-    taken(face::entry::mt_read as *const (), words, ())
+    let (from, count) = (bytes.as_ptr() as usize, bytes.len());
+    let (_answer, to) = room::<face::ReadAnswer>();
+    let (_table, table) = room::<face::Table>();
+    let ours = [to, from, count, 0, 0, 0];
+    let theirs = [from, count, table, 0, 0, 0];
+    [
+        taken(face::entry::mt_read as *const (), ours, ()),
+        taken(plain::entry::plain_read as *const (), theirs, ()),
+    ]
 }
 
-fn write(r: &mut Random, k: u64) -> usize {
+fn write(r: &mut Random, k: u64) -> Both {
     let table = match k {
         0 => largest_table(r),
         _ => writing::input(r),
     };
+    let table = face::Table::from(&table);
     let mut buffer = [0u8; LARGEST];
-    let words = [buffer.as_mut_ptr() as usize, LARGEST, 0, 0, 0, 0];
-    taken(
-        face::entry::mt_write as *const (),
-        words,
-        face::Table::from(&table),
-    )
+    let to = buffer.as_mut_ptr() as usize;
+    let at = std::ptr::from_ref(&table) as usize;
+    let ours = [to, LARGEST, 0, 0, 0, 0];
+    let theirs = [at, to, LARGEST, 0, 0, 0];
+    [
+        taken(face::entry::mt_write as *const (), ours, table),
+        taken(plain::entry::plain_write as *const (), theirs, ()),
+    ]
 }
 
-/// The answer goes to memory that the caller names first, as every struct above sixteen bytes.
-fn verdict(r: &mut Random, k: u64) -> usize {
+fn verdict(r: &mut Random, k: u64) -> Both {
     let bytes = judged(r, k);
-    let mut answer = std::mem::MaybeUninit::<face::VerdictAnswer>::uninit();
-    let to = answer.as_mut_ptr() as usize;
+    let (_answer, to) = room::<face::VerdictAnswer>();
     let words = [to, bytes.as_ptr() as usize, bytes.len(), 0, 0, 0];
-    taken(face::entry::mt_verdict as *const (), words, ())
+    [
+        taken(face::entry::mt_verdict as *const (), words, ()),
+        taken(plain::entry::plain_verdict as *const (), words, ()),
+    ]
 }
 
-fn report(r: &mut Random, k: u64) -> usize {
+fn report(r: &mut Random, k: u64) -> Both {
     let bytes = judged(r, k);
     let mut buffer = [0u8; face::REPORT_MOST];
     let to = buffer.as_mut_ptr() as usize;
     let from = bytes.as_ptr() as usize;
     let words = [from, bytes.len(), to, face::REPORT_MOST, 0, 0];
-    taken(face::entry::mt_report as *const (), words, ())
+    [
+        taken(face::entry::mt_report as *const (), words, ()),
+        taken(plain::entry::plain_report as *const (), words, ()),
+    ]
 }
 
 fn judged(r: &mut Random, k: u64) -> Vec<u8> {
@@ -109,52 +133,58 @@ fn judged(r: &mut Random, k: u64) -> Vec<u8> {
     }
 }
 
-fn open(r: &mut Random, k: u64) -> usize {
+fn open(r: &mut Random, k: u64) -> Both {
     let bytes = judged(r, k);
-    let mut answer = std::mem::MaybeUninit::<face::OpenAnswer>::uninit();
-    let to = answer.as_mut_ptr() as usize;
+    let (from, count) = (bytes.as_ptr() as usize, bytes.len());
+    let (_answer, to) = room::<face::OpenAnswer>();
+    let (_state, state) = room::<face::State>();
     let clock = r.number() as usize;
-    let words = [to, bytes.as_ptr() as usize, bytes.len(), clock, 0, 0];
-    taken(face::entry::mt_open as *const (), words, ())
+    let ours = [to, from, count, clock, 0, 0];
+    let theirs = [from, count, clock, state, 0, 0];
+    [
+        taken(face::entry::mt_open as *const (), ours, ()),
+        taken(plain::entry::plain_open as *const (), theirs, ()),
+    ]
 }
 
 /// Every task of the largest file is released for the first input.
-fn tick(r: &mut Random, k: u64) -> usize {
+fn tick(r: &mut Random, k: u64) -> Both {
     let mut input = ticking::input(r);
     if k == 0 {
         input.bytes = file(&largest_table(r));
         input.state = second::flat::open(&input.bytes, 0).state;
         input.releases = u16::MAX;
     }
-    let mut answer = std::mem::MaybeUninit::<face::TickAnswer>::uninit();
-    let to = answer.as_mut_ptr() as usize;
     let (from, count) = (input.bytes.as_ptr() as usize, input.bytes.len());
-    let words = [to, from, count, usize::from(input.releases), 0, 0];
-    taken(
-        face::entry::mt_tick as *const (),
-        words,
-        face::State::from(&input.state),
-    )
+    let releases = usize::from(input.releases);
+    let (_answer, to) = room::<face::TickAnswer>();
+    let state = face::State::from(&input.state);
+    let mut kept = state;
+    let at = std::ptr::from_mut(&mut kept) as usize;
+    let ours = [to, from, count, releases, 0, 0];
+    let theirs = [to, from, count, at, releases, 0];
+    [
+        taken(face::entry::mt_tick as *const (), ours, state),
+        taken(plain::entry::plain_tick as *const (), theirs, ()),
+    ]
 }
 
-fn most(one: fn(&mut Random, u64) -> usize) -> usize {
+fn line(name: &str, one: fn(&mut Random, u64) -> Both, beside: &str) {
     let each = (0..INPUTS).map(|k| one(&mut Random::new(k), k));
-    each.max().unwrap_or(0)
+    let [ours, theirs] = each.fold([0, 0], |most, now| [0, 1].map(|i| now[i].max(most[i])));
+    println!("{name:<10}{ours:>8}{theirs:>10}{beside}");
 }
 
 fn main() {
-    println!("mt_read    {:>6} bytes", most(read));
-    println!(
-        "mt_write   {:>6} bytes, and {} for the table, which its caller puts there",
-        most(write),
-        size_of::<face::Table>()
-    );
-    println!("mt_verdict {:>6} bytes", most(verdict));
-    println!("mt_report  {:>6} bytes", most(report));
-    println!("mt_open    {:>6} bytes", most(open));
-    println!(
-        "mt_tick    {:>6} bytes, and {} for the state, which its caller puts there",
-        most(tick),
-        size_of::<face::State>()
-    );
+    println!("the stack of a function in bytes: run on one painted with a pattern, the most that changed over {INPUTS} inputs");
+    println!("{:<10}{:>8}{:>10}", "", "ours", "plain C");
+    let put = |size: usize, what: &str| {
+        format!("   and {size} for the {what}, which its caller puts there")
+    };
+    line("mt_read", read, "");
+    line("mt_write", write, &put(size_of::<face::Table>(), "table"));
+    line("mt_verdict", verdict, "");
+    line("mt_report", report, "");
+    line("mt_open", open, "");
+    line("mt_tick", tick, &put(size_of::<face::State>(), "state"));
 }

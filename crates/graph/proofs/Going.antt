@@ -3,14 +3,14 @@ use mathlib.Core.Path.{_≡_, refl, sym, _∙_}
 use mathlib.Core.Logic.{_⊎_, inl, inr, ⊎-elim}
 use mathlib.Core.Bool.{Bool, true, false}
 use mathlib.Core.List.{List, [], _∷_}
-use Prim.Native.Nat.{ℕ, _+_, _≤_, _<_}
+use Prim.Native.Nat.{ℕ, _+_, _≤_, _<_, max}
 use native.Mathlib.Omega.{arith}
 use native.Mathlib.Decide.{ℕ-discrete, decLe}
 use lib.ListN.{length, getD}
-use Rattle.graph.specs.Words.{largest, isIn}
+use Rattle.graph.specs.Words.{isIn}
 use Rattle.graph.specs.Graph.{edge, acyclic, Chain, alone, joined, sumAlong, longest}
-use Rattle.graph.specs.Order.{passed, passedAll}
-use Rattle.graph.proofs.Facts.{clash, off-when, largest-most, largest-some, first-in, other-in, tail-in}
+use Rattle.graph.specs.Order.{passed, passedAll, bestAll}
+use Rattle.graph.proofs.Facts.{clash, off-when, first-in, other-in, tail-in}
 use Rattle.graph.proofs.Long.{chain-head, longest-bounds, longest-reached}
 use Rattle.graph.proofs.Order.{passed-length, passed-other, passed-on}
 
@@ -39,22 +39,27 @@ module _ {E : ℕ → ℕ → Bool} {f : ℕ → ℕ} where
   unfolding sumAlong
   a-chain {u} r = let d = whole r [] (alone (below r)) in (d .0, d .1, omega (arith, d .2))
 
--- what holds of the starts once the vertices of which Out holds are taken out
-pub record Going (succ times : List ℕ) (Out : ℕ → Type 0) (starts : List ℕ) : Type 0 where
+-- what holds of the starts, and of the largest end, once the vertices of which Out holds are taken out
+pub record Going (succ times : List ℕ) (Out : ℕ → Type 0) (starts : List ℕ) (best : ℕ) : Type 0 where
   pub size : length starts ≡ 16
   pub reached : (u : ℕ) → u < 16 → Reaches (edge succ) (λ x. getD times x 0) u (getD starts u 0 + getD times u 0)
   pub handed : (u w : ℕ) → u < 16 → w < 16 → Out u → edge succ u w ≡ true → getD starts u 0 + getD times u 0 ≤ getD starts w 0
+  pub covers : (u : ℕ) → u < 16 → Out u → getD starts u 0 + getD times u 0 ≤ best
+  pub met : (best ≡ 0) ⊎ ((u : ℕ) × Reaches (edge succ) (λ x. getD times x 0) u best)
 
 module _ (succ times : List ℕ) where
-  pub fewer-out : {Out Less : ℕ → Type 0} (starts : List ℕ) → ((x : ℕ) → x < 16 → Less x → Out x) → Going succ times Out starts → Going succ times Less starts
-  fewer-out starts h g = record {
+  pub fewer-out : {Out Less : ℕ → Type 0} (starts : List ℕ) (best : ℕ) → ((x : ℕ) → x < 16 → Less x → Out x) → Going succ times Out starts best
+      → Going succ times Less starts best
+  fewer-out starts best h g = record {
     size = g .size;
     reached = g .reached;
     handed = λ u w a b o e. g .handed u w a b (h u a o) e;
+    covers = λ u a o. g .covers u a (h u a o);
+    met = g .met;
   }
 
   -- one vertex taken out, whose successors are neither out nor itself
-  module _ (Out : ℕ → Type 0) (starts : List ℕ) (g : Going succ times Out starts) (u : ℕ) (b : u < 16)
+  module _ (Out : ℕ → Type 0) (starts : List ℕ) (best : ℕ) (g : Going succ times Out starts best) (u : ℕ) (b : u < 16)
       (later : (x : ℕ) → edge succ u x ≡ true → (Out x ⊎ (x ≡ u)) → ⊥) where
     same : (x : ℕ) → x < 16 → Out x ⊎ (x ≡ u) → getD (passed succ times starts u) x 0 ≡ getD starts x 0
     same x h o = passed-other succ times starts (g .size) u x h (off-when _ (λ e. later x e o))
@@ -89,18 +94,35 @@ module _ (succ times : List ℕ) where
         ⊎-elim (λ p. omega (arith, g .handed x w a h p e, grown w h))
         (λ p. let q : edge succ u w ≡ true = rw p at e in rw p (omega (arith, rw p at s, passed-on succ times starts (g .size) u w h q))) o
 
-    pub one-out : Going succ times (λ x. Out x ⊎ (x ≡ u)) (passed succ times starts u)
-    one-out = record { size = passed-length succ times starts (g .size) u; reached = reach; handed = hand }
+    cover : (x : ℕ) → x < 16 → Out x ⊎ (x ≡ u) → getD (passed succ times starts u) x 0 + getD times x 0 ≤ max best (getD starts u 0 + getD times u 0)
+    cover x h o =
+        let s = same x h o in
+        ⊎-elim (λ p. omega (arith, g .covers x h p)) (λ p. rw p (omega (arith, rw p at s))) o
+
+    meet : (max best (getD starts u 0 + getD times u 0) ≡ 0)
+        ⊎ ((x : ℕ) × Reaches (edge succ) (λ y. getD times y 0) x (max best (getD starts u 0 + getD times u 0)))
+    meet =
+        elim (decLe best (getD starts u 0 + getD times u 0)) [
+          | yes l ↦
+              let q : max best (getD starts u 0 + getD times u 0) ≡ getD starts u 0 + getD times u 0 = omega arith in
+              inr (u, rw q (g .reached u b))
+          | no l ↦ let q : max best (getD starts u 0 + getD times u 0) ≡ best = omega arith in rw q (g .met)
+        ]
+
+    pub one-out : Going succ times (λ x. Out x ⊎ (x ≡ u)) (passed succ times starts u) (max best (getD starts u 0 + getD times u 0))
+    one-out = record { size = passed-length succ times starts (g .size) u; reached = reach; handed = hand; covers = cover; met = meet }
 
   -- a list of vertices taken out, whose successors are neither out nor in the list
-  pub all-out : (Out : ℕ → Type 0) (starts : List ℕ) → Going succ times Out starts → (us : List ℕ) → ((u : ℕ) → isIn u us ≡ true → u < 16)
+  pub all-out : (Out : ℕ → Type 0) (starts : List ℕ) (best : ℕ) → Going succ times Out starts best → (us : List ℕ)
+      → ((u : ℕ) → isIn u us ≡ true → u < 16)
       → ((u x : ℕ) → isIn u us ≡ true → edge succ u x ≡ true → (Out x ⊎ (isIn x us ≡ true)) → ⊥)
-      → Going succ times (λ x. Out x ⊎ (isIn x us ≡ true)) (passedAll succ times starts us)
-  unfolding passedAll isIn
-  all-out Out starts g [] b later = fewer-out starts (λ x h o. ⊎-elim (λ p. p) (λ p. absurd (clash p refl)) o) g
-  all-out Out starts g (u ∷ us) b later =
-      fewer-out (passedAll succ times (passed succ times starts u) us) (λ x h. split x)
-      (all-out (λ x. Out x ⊎ (x ≡ u)) (passed succ times starts u) (one-out Out starts g u (b u (first-in u us)) first) us
+      → Going succ times (λ x. Out x ⊎ (isIn x us ≡ true)) (passedAll succ times starts us) (bestAll succ times starts best us)
+  unfolding passedAll bestAll isIn
+  all-out Out starts best g [] b later = fewer-out starts best (λ x h o. ⊎-elim (λ p. p) (λ p. absurd (clash p refl)) o) g
+  all-out Out starts best g (u ∷ us) b later =
+      let most : ℕ = max best (getD starts u 0 + getD times u 0) in
+      fewer-out (passedAll succ times (passed succ times starts u) us) (bestAll succ times (passed succ times starts u) most us) (λ x h. split x)
+      (all-out (λ x. Out x ⊎ (x ≡ u)) (passed succ times starts u) most (one-out Out starts best g u (b u (first-in u us)) first) us
       (λ x i. b x (tail-in x u us i)) rest)
     where
       split : (x : ℕ) → Out x ⊎ (isIn x (u ∷ us) ≡ true) → (Out x ⊎ (x ≡ u)) ⊎ (isIn x us ≡ true)
@@ -118,31 +140,28 @@ module _ (succ times : List ℕ) where
           (λ p. later v x k e (inr (tail-in x u us p))) o
 
 -- ---- once all are out
-module _ (succ times starts : List ℕ) (g : Going succ times (λ x. Unit {0}) starts) where
-  abbrev ends : ℕ → ℕ
-  ends u = getD starts u 0 + getD times u 0
-
+module _ (succ times starts : List ℕ) (best : ℕ) (g : Going succ times (λ x. Unit {0}) starts best) where
   -- no chain has more than the largest end
-  within : (u : ℕ) (c : List ℕ) → Chain 16 (edge succ) (u ∷ c) → getD starts u 0 + sumAlong (λ x. getD times x 0) (u ∷ c) ≤ largest 16 ends
+  within : (u : ℕ) (c : List ℕ) → Chain 16 (edge succ) (u ∷ c) → getD starts u 0 + sumAlong (λ x. getD times x 0) (u ∷ c) ≤ best
   unfolding sumAlong
-  within u [] p = omega (arith, largest-most 16 ends u (chain-head 16 (edge succ) p))
+  within u [] p = omega (arith, g .covers u (chain-head 16 (edge succ) p) tt)
   within u (w ∷ c) (joined h e p) = omega (arith, within w c p, g .handed u w h (chain-head 16 (edge succ) p) tt e)
 
-  pub largest-is : acyclic succ ≡ true → largest 16 ends ≡ longest 16 (edge succ) (λ x. getD times x 0)
-  largest-is a =
-      let up : longest 16 (edge succ) (λ x. getD times x 0) ≤ largest 16 ends = upper (longest-reached 16 succ (λ x. getD times x 0) (omega arith) a (omega arith)) in
-      let down : largest 16 ends ≤ longest 16 (edge succ) (λ x. getD times x 0) = ⊎-elim (λ z. omega arith) (λ s. lower s) (largest-some 16 ends) in
+  pub best-is : acyclic succ ≡ true → best ≡ longest 16 (edge succ) (λ x. getD times x 0)
+  best-is a =
+      let up : longest 16 (edge succ) (λ x. getD times x 0) ≤ best = upper (longest-reached 16 succ (λ x. getD times x 0) (omega arith) a (omega arith)) in
+      let down : best ≤ longest 16 (edge succ) (λ x. getD times x 0) = ⊎-elim (λ z. omega arith) (λ s. lower s) (g .met) in
       omega arith
     where
       upper : (c : List ℕ) × Chain 16 (edge succ) c × (sumAlong (λ x. getD times x 0) c ≡ longest 16 (edge succ) (λ x. getD times x 0))
-          → longest 16 (edge succ) (λ x. getD times x 0) ≤ largest 16 ends
+          → longest 16 (edge succ) (λ x. getD times x 0) ≤ best
       upper ([], p, s) = absurd (none p)
         where
           none : Chain 16 (edge succ) [] → ⊥
           none = elim [ ]
       upper (u ∷ c, p, s) = omega (arith, within u c p)
 
-      lower : (i : ℕ) × (i < 16) × (largest 16 ends ≡ ends i) → largest 16 ends ≤ longest 16 (edge succ) (λ x. getD times x 0)
-      lower (i, h, e) =
-          let d = a-chain (g .reached i h) in
+      lower : (u : ℕ) × Reaches (edge succ) (λ x. getD times x 0) u best → best ≤ longest 16 (edge succ) (λ x. getD times x 0)
+      lower (u, r) =
+          let d = a-chain r in
           omega (arith, d .2, longest-bounds 16 succ (λ x. getD times x 0) (omega arith) a (d .0) (d .1))

@@ -1,5 +1,5 @@
 -- Laws of the starts: what a vertex that is taken out changes, and how large they grow.
-use mathlib.Core.Path.{_≡_, refl, sym, ap, _∙_}
+use mathlib.Core.Path.{_≡_, refl, sym, ap, ap₂, _∙_}
 use mathlib.Core.Bool.{Bool, true, false}
 use mathlib.Core.List.{List, [], _∷_}
 use Prim.Native.Nat.{ℕ, suc, _+_, _*_, _≤_, _<_, max}
@@ -9,7 +9,7 @@ use lib.ListN.{length, getD, set, length-set}
 use lib.Seq.{getD-set-same, getD-set-other}
 use Rattle.graph.specs.Words.{pick, bit, members, lowest, isIn}
 use Rattle.graph.specs.Graph.{edge}
-use Rattle.graph.specs.Order.{raised, passed, passedAll}
+use Rattle.graph.specs.Order.{raised, passed, passedAll, bestAll}
 use Rattle.graph.proofs.Facts.{first-in, other-in, tail-in}
 use Rattle.graph.proofs.Members.{members-zero, in-members}
 
@@ -42,6 +42,18 @@ module _ (succ times : List ℕ) where
         ap (λ (l : List ℕ). passedAll succ times l (members less)) p
             ∙ ap (passedAll succ times starts) (ap (λ (t : ℕ). t ∷ members less) e ∙ sym q),
       )
+
+  pub bestAll-end : (starts : List ℕ) (best rest : ℕ) → rest ≡ 0 → best ≡ bestAll succ times starts best (members rest)
+  unfolding bestAll
+  bestAll-end starts best rest e = sym (ap (bestAll succ times starts best) (ap members e ∙ members-zero))
+
+  pub bestAll-more : (starts next : List ℕ) (best most rest less u t : ℕ) → u ≡ lowest 16 16 (bit rest)
+      → members rest ≡ lowest 16 16 (bit rest) ∷ members less → t ≡ getD times u 0 → next ≡ passed succ times starts u
+      → most ≡ max best (getD starts u 0 + t) → bestAll succ times next most (members less) ≡ bestAll succ times starts best (members rest)
+  unfolding bestAll
+  bestAll-more starts next best most rest less u t e q h n m =
+      ap₂ (λ (l : List ℕ) (b : ℕ). bestAll succ times l b (members less)) n (m ∙ ap (λ (x : ℕ). max best (getD starts u 0 + x)) h)
+      ∙ ap (bestAll succ times starts best) (ap (λ (x : ℕ). x ∷ members less) e ∙ sym q)
 
 -- ---- what is raised
 pub raised-length : (starts : List ℕ) (end : ℕ) (ws : List ℕ) → length (raised starts end ws) ≡ length starts
@@ -96,19 +108,20 @@ module _ (succ times starts : List ℕ) (size : length starts ≡ 16) (u : ℕ) 
 abbrev pub Room : List ℕ → ℕ → ℕ → Type 0
 Room starts n most = (w : ℕ) → w < 16 → getD starts w 0 + 4294967296 * n ≤ most
 
-module _ (succ times : List ℕ) (small : (u : ℕ) → getD times u 0 < 4294967296) where
-  pub passed-room : (starts : List ℕ) → length starts ≡ 16 → (u n most : ℕ) → u < 16 → Room starts (suc n) most → Room (passed succ times starts u) n most
-  passed-room starts size u n most b r w h = go (edge succ u w) (passed-at succ times starts size u w h)
+module _ (succ times : List ℕ) where
+  pub passed-room : (starts : List ℕ) → length starts ≡ 16 → (u n most : ℕ) → u < 16 → getD times u 0 < 4294967296 → Room starts (suc n) most
+      → Room (passed succ times starts u) n most
+  passed-room starts size u n most b small r w h = go (edge succ u w) (passed-at succ times starts size u w h)
     where
       go : (d : Bool) → getD (passed succ times starts u) w 0 ≡ pick d (max (getD starts w 0) (getD starts u 0 + getD times u 0)) (getD starts w 0)
           → getD (passed succ times starts u) w 0 + 4294967296 * n ≤ most
-      go true e = omega (arith, r w h, r u b, small u)
+      go true e = omega (arith, r w h, r u b)
       go false e = omega (arith, r w h)
 
-  pub passedAll-room : (starts : List ℕ) → length starts ≡ 16 → (us : List ℕ) → ((u : ℕ) → isIn u us ≡ true → u < 16) → (n most : ℕ)
-      → Room starts (length us + n) most → Room (passedAll succ times starts us) n most
+  pub passedAll-room : ((u : ℕ) → getD times u 0 < 4294967296) → (starts : List ℕ) → length starts ≡ 16 → (us : List ℕ)
+      → ((u : ℕ) → isIn u us ≡ true → u < 16) → (n most : ℕ) → Room starts (length us + n) most → Room (passedAll succ times starts us) n most
   unfolding passedAll
-  passedAll-room starts size [] b n most r = λ w h. omega (arith, r w h)
-  passedAll-room starts size (u ∷ us) b n most r =
-      passedAll-room (passed succ times starts u) (passed-length succ times starts size u) us (λ x i. b x (tail-in x u us i)) n most
-      (passed-room starts size u (length us + n) most (b u (first-in u us)) (λ w h. omega (arith, r w h)))
+  passedAll-room small starts size [] b n most r = λ w h. omega (arith, r w h)
+  passedAll-room small starts size (u ∷ us) b n most r =
+      passedAll-room small (passed succ times starts u) (passed-length succ times starts size u) us (λ x i. b x (tail-in x u us i)) n most
+      (passed-room starts size u (length us + n) most (b u (first-in u us)) (small u) (λ w h. omega (arith, r w h)))

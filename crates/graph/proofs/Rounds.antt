@@ -9,9 +9,9 @@ use native.Mathlib.Nat.{zero-add}
 use lib.ListN.{length, getD, replicate}
 use lib.Bits.{bitAnd, and-le-l}
 use borrow.Author.Tests.{eq-eqb, ne-eqb}
-use Rattle.graph.specs.Words.{bit, members, largest, isIn}
+use Rattle.graph.specs.Words.{bit, members, isIn}
 use Rattle.graph.specs.Graph.{edge, ledTo, acyclic, longestOf}
-use Rattle.graph.specs.Order.{passedAll}
+use Rattle.graph.specs.Order.{passedAll, bestAll}
 use Rattle.graph.proofs.Facts.{clash, both-true, off-when, length-row, row-in}
 use Rattle.graph.proofs.Lists.{some-any}
 use Rattle.graph.proofs.Bits.{bit-zero, bit-and}
@@ -19,15 +19,15 @@ use Rattle.graph.proofs.Members.{members-and, members-full, those-split
 use Rattle.graph.proofs.Settle.{comesToNone, all-in, round-on, round-end}
 use Rattle.graph.proofs.Rank.{led-below}
 use Rattle.graph.proofs.Order.{Room, passedAll-room}
-use Rattle.graph.proofs.Going.{here, Going, fewer-out, all-out, largest-is}
+use Rattle.graph.proofs.Going.{here, Going, fewer-out, all-out, best-is}
 
-pub record Round (succ times : List ℕ) (left : ℕ) (starts : List ℕ) : Type 0 where
+pub record Round (succ times : List ℕ) (left : ℕ) (starts : List ℕ) (best : ℕ) : Type 0 where
   pub bits : left < 2 ^ 16
   pub test : comesToNone succ left ≡ acyclic succ
   -- what a vertex that is in leads to is in
   pub closed : (u w : ℕ) → bit left u ≡ true → edge succ u w ≡ true → bit left w ≡ true
   pub room : Room starts (length (members left)) 68719476736
-  pub going : Going succ times (λ x. bit left x ≡ false) starts
+  pub going : Going succ times (λ x. bit left x ≡ false) starts best
 
 zeros-at : (n w : ℕ) → _≡_ {A = ℕ} (getD (replicate n 0) w 0) 0
 zeros-at zero w = refl
@@ -39,7 +39,7 @@ full k h = sym (in-members 65535 k h) ∙ ap (isIn k) members-full ∙ row-in 16
 
 module _ (succ times : List ℕ) where
   -- before the first round
-  pub round-first : ((u : ℕ) → getD succ u 0 < 2 ^ 16) → Round succ times 65535 (replicate 16 0)
+  pub round-first : ((u : ℕ) → getD succ u 0 < 2 ^ 16) → Round succ times 65535 (replicate 16 0) 0
   round-first small = record {
     bits = omega arith;
     test = all-in succ;
@@ -49,10 +49,12 @@ module _ (succ times : List ℕ) where
       size = refl;
       reached = λ u h. rw (zeros-at 16 u, zero-add) (here h);
       handed = λ u w a b o e. absurd (clash (full u a) o);
+      covers = λ u a o. absurd (clash (full u a) o);
+      met = inl refl;
     };
   }
 
-  module _ (left : ℕ) (starts : List ℕ) (r : Round succ times left starts) (led : ℕ) (small : led < 2 ^ 16)
+  module _ (left : ℕ) (starts : List ℕ) (best : ℕ) (r : Round succ times left starts best) (led : ℕ) (small : led < 2 ^ 16)
       (h : (w : ℕ) → bit led w ≡ ledTo (edge succ) (members left) w) where
     led-to : (u w : ℕ) → bit left u ≡ true → edge succ u w ≡ true → bit led w ≡ true
     unfolding ledTo
@@ -86,10 +88,11 @@ module _ (succ times : List ℕ) where
     unfolding free
     room-for w b = omega (arith, r .room w b, fewer)
 
-    pub round-next : ((u : ℕ) → getD times u 0 < 4294967296) → (later : List ℕ)
-        → later ≡ passedAll succ times starts (members (bitAnd left (65535 - led))) → Round succ times (bitAnd left led) later
+    pub round-next : ((u : ℕ) → getD times u 0 < 4294967296) → (later : List ℕ) (most : ℕ)
+        → later ≡ passedAll succ times starts (members (bitAnd left (65535 - led)))
+        → most ≡ bestAll succ times starts best (members (bitAnd left (65535 - led))) → Round succ times (bitAnd left led) later most
     unfolding free
-    round-next brief later e = rw e (record {
+    round-next brief later most e q = rw (e, q) (record {
       bits = omega (arith, and-le-l left led, r .bits);
       test = round-on succ left led h ∙ r .test;
       closed = λ u w i d.
@@ -97,8 +100,8 @@ module _ (succ times : List ℕ) where
           bit-and left led w ∙ rw (r .closed u w q d, led-to u w q d) refl;
       room = passedAll-room succ times brief starts (r .going .size) (members free) (λ u i. in-free u i .0) (length (members (bitAnd left led)))
           68719476736 (λ w b. omega (arith, r .room w b, fewer));
-      going = fewer-out succ times (passedAll succ times starts (members free)) out-now
-          (all-out succ times (λ x. bit left x ≡ false) starts (r .going) (members free) (λ u i. in-free u i .0) later-in);
+      going = fewer-out succ times (passedAll succ times starts (members free)) (bestAll succ times starts best (members free)) out-now
+          (all-out succ times (λ x. bit left x ≡ false) starts best (r .going) (members free) (λ u i. in-free u i .0) later-in);
     })
       where
         later-in : (u x : ℕ) → isIn u (members free) ≡ true → edge succ u x ≡ true → ((bit left x ≡ false) ⊎ (isIn x (members free) ≡ true)) → ⊥
@@ -114,8 +117,8 @@ module _ (succ times : List ℕ) where
         rw a refl
 
     -- and with none left the largest end is the longest chain
-    pub round-done : bitAnd left led ≡ left → left ≡ 0 → largest 16 (λ u. getD starts u 0 + getD times u 0) ≡ longestOf succ times
+    pub round-done : bitAnd left led ≡ left → left ≡ 0 → best ≡ longestOf succ times
     unfolding longestOf
     round-done e z =
         let a : acyclic succ ≡ true = sym (r .test) ∙ round-end succ left led h (r .bits) e ∙ eq-eqb left 0 z in
-        largest-is succ times starts (fewer-out succ times starts (λ x b o. ap (λ (n : ℕ). bit n x) z ∙ bit-zero x) (r .going)) a ∙ rw a refl
+        best-is succ times starts best (fewer-out succ times starts best (λ x b o. ap (λ (n : ℕ). bit n x) z ∙ bit-zero x) (r .going)) a ∙ rw a refl

@@ -19,3 +19,8 @@ passed succ times starts u = raised starts (getD starts u 0 + getD times u 0) (m
 unfoldable pub passedAll : List ℕ → List ℕ → List ℕ → List ℕ → List ℕ
 passedAll succ times starts [] = starts
 passedAll succ times starts (u ∷ us) = passedAll succ times (passed succ times starts u) us
+
+-- the largest of `best` and the ends of those that are taken out
+unfoldable pub bestAll : List ℕ → List ℕ → List ℕ → ℕ → List ℕ → ℕ
+bestAll succ times starts best [] = best
+bestAll succ times starts best (u ∷ us) = bestAll succ times (passed succ times starts u) (max best (getD starts u 0 + getD times u 0)) us

@@ -55,20 +55,20 @@ goes-on end p e = (
 
 -- ---- row by row
 module _ (t : Table) (s : List ℕ) (end : ℕ) where
-  for-over : (k : ℕ) (p : Progress) → isOver end p ≡ true → rowsFor t s end k p ≡ p
+  pub for-over : (k : ℕ) (p : Progress) → isOver end p ≡ true → rowsFor t s end k p ≡ p
   unfolding rowsFor
   for-over zero p e = refl
   for-over (suc k) p e = rw e refl
 
-  for-more : (k : ℕ) (p : Progress) → isOver end p ≡ false → rowsFor t s end (suc k) p ≡ rowsFor t s end k (judgeRow t s p)
+  pub for-more : (k : ℕ) (p : Progress) → isOver end p ≡ false → rowsFor t s end (suc k) p ≡ rowsFor t s end k (judgeRow t s p)
   unfolding rowsFor
   for-more k p e = rw e refl
 
   -- k steps are enough from p on
-  Enough : ℕ → Progress → Type 0
+  unfoldable pub Enough : ℕ → Progress → Type 0
   Enough k p = (isOver end p ≡ true) ⊎ (end ≤ k + p .next)
 
-  next-enough : (k : ℕ) (p : Progress) → isOver end p ≡ false → Enough (suc k) p → Enough k (judgeRow t s p)
+  pub next-enough : (k : ℕ) (p : Progress) → isOver end p ≡ false → Enough (suc k) p → Enough k (judgeRow t s p)
   unfolding Enough rowEnd
   next-enough k p e (inl h) = absurd (clash h e)
   next-enough k p e (inr h) = elim (ℕ-discrete (fault t (p .state) s (p .next)) 0) [
@@ -76,7 +76,7 @@ module _ (t : Table) (s : List ℕ) (end : ℕ) where
     | no q ↦ inl (rw (refused-row t s p q) (over-refused end _ q))
   ]
 
-  none-enough : (p : Progress) → Enough zero p → isOver end p ≡ true
+  pub none-enough : (p : Progress) → Enough zero p → isOver end p ≡ true
   unfolding Enough
   none-enough p (inl h) = h
   none-enough p (inr h) = over-end end p (omega arith)

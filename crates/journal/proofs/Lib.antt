@@ -1,9 +1,12 @@
 -- Judging row by row, for a loop.
 pub mod Going
+-- Pieces of a journal.
+pub mod SameRow
 -- Lists of vertices.
 pub mod Keys
 -- The tests of a row.
 pub mod Passing
+pub mod Pieces
 -- Its bytes.
 pub mod Written
 -- A legal tick.

@@ -4,5 +4,7 @@ pub mod Judging
 -- Runs and their writing; what the judge accepts, stated.
 pub mod Runs
 pub mod Accepting
+-- Judging in pieces, stated.
+pub mod Pieces
 -- Examples, stated.
 pub mod Examples

@@ -17,7 +17,7 @@ pub put-length : (costs : List ℕ) (i : ℕ) (own : List ℕ) → length (putCo
 unfolding putCosts
 put-length costs i own = length-row 256 _
 
-put-at : (costs : List ℕ) (i : ℕ) (own : List ℕ) (k : ℕ) → k < 256
+pub put-at : (costs : List ℕ) (i : ℕ) (own : List ℕ) (k : ℕ) → k < 256
     → getD (putCosts costs i own) k 0 ≡ pick (eqb (k / 16) i) (getD own (k % 16) 0) (getD costs k 0)
 unfolding putCosts
 put-at costs i own k h = row-at 256 _ k 0 h

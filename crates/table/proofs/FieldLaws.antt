@@ -116,7 +116,25 @@ module _ (s : List ℕ) (at : ℕ) where
       let q = ranged-read Ticks 1 1000000 at (value4 s at) x (r .1) in
       (r .0, q .1, q .2)
 
--- its refusal is never success
+-- a refusal is never success
+pub mark-refused : (b : ℕ) (s : List ℕ) (at : ℕ) → markAt b s at ≡ Stop Read → ⊥
+unfolding markAt field
+mark-refused b s at e = go (leb (at + 2) (length s)) (eqb (getD s at 0) 0x54 && eqb (getD s (at + 1) 0) b) e
+  where
+    go : (c d : Bool) → pick c (pick d (Got 0) (Stop (Mark at))) (Stop (Short at)) ≡ Stop Read → ⊥
+    go true true e = let z : _≡_ {A = ℕ} 0 1 = cc in omega arith
+    go true false e = let z : _≡_ {A = ℕ} 0 1 = cc in omega arith
+    go false d e = let z : _≡_ {A = ℕ} 0 1 = cc in omega arith
+
+pub byte-refused : (lo hi : ℕ) (s : List ℕ) (at : ℕ) → byteAt lo hi s at ≡ Stop Read → ⊥
+unfolding byteAt field ranged
+byte-refused lo hi s at e = go (leb (at + 1) (length s)) (leb lo (getD s at 0) && leb (getD s at 0) hi) e
+  where
+    go : (a b : Bool) → pick a (pick b (Got (getD s at 0)) (Stop (Range at))) (Stop (Short at)) ≡ Stop Read → ⊥
+    go true true e = let z : _≡_ {A = ℕ} 0 1 = cc in omega arith
+    go true false e = let z : _≡_ {A = ℕ} 0 1 = cc in omega arith
+    go false b e = let z : _≡_ {A = ℕ} 0 1 = cc in omega arith
+
 pub ticks-refused : (s : List ℕ) (at : ℕ) → ticksAt s at ≡ Stop Read → ⊥
 unfolding ticksAt field ranged
 ticks-refused s at e = go (leb (at + 4) (length s)) (leb 1 (value4 s at) && leb (value4 s at) 1000000) e

@@ -66,13 +66,10 @@ after-ticks : (s : List ℕ) (k at : ℕ) (f : Field) (costs : List ℕ) (go : �
 after-ticks s k at (Stop o) costs go h step e = absurd (ticks-refused s at (h ∙ ap Stop e))
 after-ticks s k at (Got x) costs go h step e = step x (ticks-read s at (ticksAt s at) x refl h .0) e
 
-costs-within : (s : List ℕ) (k at u : ℕ) (costs : List ℕ) → at ≤ length s → costsAt s k at u costs .outcome ≡ Read → at + 4 * k ≤ length s
+pub costs-within : (s : List ℕ) (k at u : ℕ) (costs : List ℕ) → at ≤ length s → costsAt s k at u costs .outcome ≡ Read → at + 4 * k ≤ length s
 unfolding costsAt
 costs-within s zero at u costs h e = omega arith
 costs-within s (suc k) at u costs h e =
     let l = after-ticks s k at (ticksAt s at) costs (λ x. costsAt s k (at + 4) (u + 1) (set costs u x)) refl
     (λ x w r. costs-within s k (at + 4) (u + 1) (set costs u x) w r) e in
     omega arith
-
-pub costs-read : (s : List ℕ) (k at u : ℕ) (costs : List ℕ) (r : CostsRead) → r ≡ costsAt s k at u costs → r .outcome ≡ Read → at ≤ length s → at + 4 * k ≤ length s
-costs-read s k at u costs r h e l = costs-within s k at u costs l (sym (ap (λ (x : CostsRead). x .outcome) h) ∙ e)

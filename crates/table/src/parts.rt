@@ -1,42 +1,38 @@
-// The costs and the edges of a task, field by field.
+// The costs and the edges of a task, field by field, to where they stay.
 ghost use mathlib.Core.Path.{_≡_};
 ghost use Prim.Native.Nat.{_+_, _*_, _^_, _≤_, _<_};
 ghost use lib.ListN.{length};
-ghost use Rattle.table.specs.Memory.{noCosts, noSucc};
 ghost use Rattle.table.specs.Reading.{costsAt, edgesAt};
-use crate::CostsRead;
-use crate::EdgesRead;
 use crate::Field;
 use crate::Outcome;
 use crate::fields;
 
-// The costs of a task of v vertices.
-pub(crate) fn costs_at(bytes: &[u8], at: usize, v: u32) -> CostsRead
-    requires { ⌜ (v ≤ 16) × (at ≤ length (now bytes)) ⌝ }
-    ensures { λ r. ⌜ r ≡ costsAt (now (bytes .entry)) v at 0 noCosts ⌝ }
+// The costs of a task of v vertices, into the row from place `slot` on.
+pub(crate) fn costs_at(
+    bytes: &[u8],
+    at: usize,
+    v: u32,
+    slot: usize,
+    costs: &mut [u32; 256],
+) -> Outcome
+    requires { ⌜ (v ≤ 16) × (at ≤ length (now bytes)) × (slot + 16 ≤ 256) × (length (now costs) ≡ 256) ⌝ }
+    ensures { λ r. ⌜ (r ≡ costsAt (now (bytes .entry)) v at slot (now (costs .entry)) .outcome) × (now (costs .exit) ≡ costsAt (now (bytes .entry)) v at slot (now (costs .entry)) .costs) ⌝ }
 {
-    let mut costs = [0u32; 16];
     let mut p = at;
     let mut u: usize = 0;
     while u < v as usize {
         match fields::ticks_at(bytes, p) {
             Field::Stop(o) => {
-                return CostsRead {
-                    outcome: o,
-                    costs: costs,
-                };
+                return o;
             }
             Field::Got(x) => {
-                costs[u] = x;
+                costs[slot + u] = x;
             }
         }
         p += 4;
         u += 1;
     }
-    CostsRead {
-        outcome: Outcome::Read,
-        costs: costs,
-    }
+    Outcome::Read
 }
 
 // Two to the power t.
@@ -48,21 +44,17 @@ fn power(t: u32) -> u16
 }
 
 // The successor bits of a task of v vertices and e edges; low is one more than the key before.
-pub(crate) fn edges_at(bytes: &[u8], at: usize, v: u32, e: u32) -> EdgesRead
-    requires { ⌜ (v ≤ 16) × (at ≤ length (now bytes)) ⌝ }
-    ensures { λ r. ⌜ r ≡ edgesAt v (now (bytes .entry)) e at 0 noSucc ⌝ }
+pub(crate) fn edges_at(bytes: &[u8], at: usize, v: u32, e: u32, succ: &mut [u16; 16]) -> Outcome
+    requires { ⌜ (v ≤ 16) × (at ≤ length (now bytes)) × (length (now succ) ≡ 16) ⌝ }
+    ensures { λ r. ⌜ (r ≡ edgesAt v (now (bytes .entry)) e at 0 (now (succ .entry)) .outcome) × (now (succ .exit) ≡ edgesAt v (now (bytes .entry)) e at 0 (now (succ .entry)) .succ) ⌝ }
 {
-    let mut succ = [0u16; 16];
     let mut p = at;
     let mut low: u32 = 0;
     let mut i: u32 = 0;
     while i < e {
         match fields::edge_at(bytes, p, v, low) {
             Field::Stop(o) => {
-                return EdgesRead {
-                    outcome: o,
-                    succ: succ,
-                };
+                return o;
             }
             Field::Got(key) => {
                 let from = (key / 16) as usize;
@@ -74,8 +66,5 @@ pub(crate) fn edges_at(bytes: &[u8], at: usize, v: u32, e: u32) -> EdgesRead
         p += 2;
         i += 1;
     }
-    EdgesRead {
-        outcome: Outcome::Read,
-        succ: succ,
-    }
+    Outcome::Read
 }

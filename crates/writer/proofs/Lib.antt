@@ -1,13 +1,4 @@
--- The writer's tests on the table itself refuse exactly as a reader does for the bytes that it stands for (Checks); the other files
--- are the steps, and what the code puts into the buffer.
-pub mod Cells
-pub mod Keys
-pub mod Rows
-pub mod Checks
-pub mod Otherwise
-pub mod TestLaws
-pub mod TaskTests
-pub mod UnusedLaws
+-- What the code puts into the buffer.
 pub mod Passed
 pub mod PutLaws
 pub mod TypedTable

@@ -14,11 +14,11 @@ use Rattle.table.specs.declared.Table.{Table}
 use Rattle.table.specs.declared.Outcome.{Outcome}
 use Rattle.table.specs.declared.Outcome.the-variants.{Read, Range}
 use Rattle.table.specs.declared.Field.the-variants.{Stop, Got}
-use Rattle.writer.specs.declared.Checked.{Checked}
+use Rattle.checks.specs.declared.Checked.{Checked}
 use Rattle.table.specs.Memory.{task, succ}
 use Rattle.table.specs.Reading.{onward, whenRead, ranged}
-use Rattle.writer.specs.Checking.{stopped, keysOf, taskTested, tasksTested, checked}
-use Rattle.writer.proofs.Checks.{range-bad}
+use Rattle.checks.specs.Checking.{stopped, keysOf, taskTested, tasksTested, checked}
+use Rattle.checks.proofs.Checks.{range-bad}
 use Rattle.table.proofs.FieldViews.{went}
 
 out-stopped : (o : Outcome) → stopped o .outcome ≡ o

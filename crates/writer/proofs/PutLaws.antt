@@ -14,10 +14,11 @@ use Rattle.table.specs.declared.Task.{Task}
 use Rattle.table.specs.declared.Table.{Table}
 use Rattle.table.specs.Memory.{task, vertices, D, T, succ, cost}
 use Rattle.table.specs.Writing.{bytes4, edgeBytes, encodeTask, encode}
-use Rattle.writer.specs.Checking.{rowKeys, keysOf, costBytes, taskBytes}
-use Rattle.writer.proofs.Keys.{keys-are}
+use Rattle.checks.specs.Checking.{rowKeys, keysOf}
+use Rattle.writer.specs.Putting.{costBytes, taskBytes}
+use Rattle.checks.proofs.Keys.{keys-are}
 use Rattle.table.proofs.Places.{costs-long, edges-long}
-use Rattle.writer.proofs.TestLaws.{join-next, join-end, keysFrom, keys-next}
+use Rattle.checks.proofs.TestLaws.{join-next, join-end, keysFrom, keys-next}
 
 -- ---- part after part
 pub sets-sets : (xs ys l : List ℕ) (i : ℕ) → sets l i (xs ++ ys) ≡ sets (sets l i xs) (i + length xs) ys

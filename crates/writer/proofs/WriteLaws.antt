@@ -13,10 +13,10 @@ use Rattle.table.specs.declared.Written.{Written}
 use Rattle.table.specs.declared.Written.the-variants.{Done, Refused, Unused, Room}
 use Rattle.table.specs.Reading.{read}
 use Rattle.table.specs.Writing.{encode, unusedZero, writing, frontOf, written}
-use Rattle.writer.specs.Checking.{checked}
+use Rattle.checks.specs.Checking.{checked}
 use Rattle.table.specs.Good.{Typed}
-use Rattle.writer.proofs.Otherwise.{NotRead, otherwise}
-use Rattle.writer.proofs.Checks.{checked-is, checked-length}
+use Rattle.checks.proofs.Otherwise.{NotRead, otherwise}
+use Rattle.checks.proofs.Checks.{checked-is, checked-length}
 use Rattle.writer.proofs.PutLaws.{sets-front}
 
 -- what is written: the buffer as it was, or the file and the rest of the buffer

@@ -1,2 +1,2 @@
--- The writer's tests 3 to 7 on the table itself, in file order, as the code goes through them; `checked-is` (proofs/Checks.antt) says what they mean.
-pub mod Checking
+-- The bytes of a task as the code puts them; `task-bytes` (proofs/PutLaws.antt) says what they are.
+pub mod Putting

@@ -7,9 +7,8 @@ ghost use lib.Seq.{sets};
 ghost use Rattle.graph.specs.Words.{inOrder};
 ghost use Rattle.table.specs.declared.Outcome.the-variants.{Read};
 ghost use Rattle.table.specs.Writing.{bytes4, edgeBytes, encodeTask, encode, writing, written};
-ghost use Rattle.writer.specs.Checking.{rowKeys, keysOf, costBytes, taskBytes, checked};
-use crate::checking;
-use crate::entries;
+ghost use Rattle.checks.specs.Checking.{rowKeys, keysOf, checked};
+ghost use Rattle.writer.specs.Putting.{costBytes, taskBytes};
 use table::Outcome;
 use table::Table;
 use table::Task;
@@ -95,7 +94,7 @@ fn put_task(buffer: &mut [u8], at: usize, task: Task, costs: &[u32; 256], slot: 
 {
     let v = task.v as usize;
     let succ = task.succ;
-    let e = checking::edge_count(succ, v);
+    let e = checks::edges_of(succ, v);
     put_head(&mut *buffer, at, 0x4B, task.v, (e % 256) as u8);
     put4(&mut *buffer, at + 4, task.d);
     put4(&mut *buffer, at + 8, task.t);
@@ -122,12 +121,12 @@ fn put_tasks(buffer: &mut [u8], table: Table)
 pub fn write(table: Table, buffer: &mut [u8]) -> Written
     ensures { λ r. ⌜ (r ≡ writing table (length (now (buffer .entry)))) × (now (buffer .exit) ≡ written table (now (buffer .entry))) ⌝ }
 {
-    let c = checking::check(table);
+    let c = checks::check(table);
     let o = c.outcome;
     let Outcome::Read = o else {
         return Written::Refused(o);
     };
-    if !entries::unused_zero(table) {
+    if !checks::unused_zero(table) {
         return Written::Unused;
     }
     let l = c.next;

@@ -121,7 +121,7 @@ pub fn near_edge(r: &mut Random, n: usize, most: usize, scale: u32) -> Table {
 }
 
 /// By how much this cost can grow so that the table stays accepted.
-fn room(table: &mut Table, at: usize) -> u32 {
+pub fn room(table: &mut Table, at: usize) -> u32 {
     let was = table.costs[at];
     let (mut good, mut bad) = (0, MOST_TICKS - was + 1);
     while bad - good > 1 {

@@ -10,10 +10,10 @@ use Rattle.graph.proofs.raise.Statement.{statement}
 use Rattle.graph.proofs.raise.Tie as tie
 
 abbrev Inv-loop : tie.InvT-loop
-Inv-loop end set next₀ rest₀ next rest = (length next ≡ 16) × (raised next end (members rest) ≡ raised next₀ end (members set))
+Inv-loop starts₀ end set rest₀ starts rest = (length starts ≡ 16) × (raised starts end (members rest) ≡ raised starts₀ end (members set))
 
 abbrev μ-loop : tie.MeasureT-loop
-μ-loop end set next₀ rest₀ next rest = length (members rest)
+μ-loop starts₀ end set rest₀ starts rest = length (members rest)
 
 loop-holds : tie.Need-loop-holds Inv-loop μ-loop
 loop-holds c = (search needs, refl)
@@ -24,17 +24,17 @@ first-of-requires c κs = search needs
 mul-larger : tie.Need-mul-larger Inv-loop μ-loop
 mul-larger c = search needs
 
-array-read-larger : tie.Need-array-read-larger Inv-loop μ-loop
-array-read-larger c = search needs
+element-copy-out-larger : tie.Need-element-copy-out-larger Inv-loop μ-loop
+element-copy-out-larger c = search needs
 
 larger-requires : tie.Need-larger-requires Inv-loop μ-loop
 larger-requires c κs = search needs
 
-mul-next : tie.Need-mul-next Inv-loop μ-loop
-mul-next c = search needs
+mul-starts : tie.Need-mul-starts Inv-loop μ-loop
+mul-starts c = search needs
 
-array-write-next : tie.Need-array-write-next Inv-loop μ-loop
-array-write-next c = search needs
+element-write-starts : tie.Need-element-write-starts Inv-loop μ-loop
+element-write-starts c = search needs
 
 others-requires : tie.Need-others-requires Inv-loop μ-loop
 others-requires c κs = search needs
@@ -44,11 +44,11 @@ loop-less c = omega (arith, ap length (c .others .ensures))
 
 loop-again : tie.Need-loop-again Inv-loop μ-loop
 loop-again c =
-    let l = c .before .before .before .before .loop in
-    let w = c .before .before .first-of in
+    let l = c .before .before .before .before .before .loop in
+    let w = c .before .before .before .first-of in
     let m = c .before .larger in (
-      length-set (l .next) (w .result) (m .result) ∙ l .inv .0,
-      raised-more (c .before .before .before .before .before .args .end) (l .next) (l .rest) (c .others .result) (w .result) (m .result) (w .ensures .0)
+      length-set (l .starts) (w .result) (m .result) ∙ l .inv .0,
+      raised-more (c .before .before .before .before .before .before .args .end) (l .starts) (l .rest) (c .others .result) (w .result) (m .result) (w .ensures .0)
           (c .others .ensures) (m .ensures)
           ∙ l .inv .1,
     )
@@ -56,7 +56,7 @@ loop-again c =
 returns : tie.Need-returns Inv-loop μ-loop
 returns c =
     let l = c .before .loop in
-    raised-end (c .before .before .args .end) (l .next) (l .rest) (omega arith) ∙ l .inv .1
+    raised-end (c .before .before .args .end) (l .starts) (l .rest) (omega arith) ∙ l .inv .1
 
 pub raise-spec : {M : Type 1} → statement M
 raise-spec =
@@ -67,10 +67,10 @@ raise-spec =
     loop-holds
     first-of-requires
     mul-larger
-    array-read-larger
+    element-copy-out-larger
     larger-requires
-    mul-next
-    array-write-next
+    mul-starts
+    element-write-starts
     others-requires
     loop-less
     loop-again

@@ -1,4 +1,4 @@
--- `machine::tick_in_place` meets its contract: a walk of its MIR, by hand. The borrow is opened, the state is copied out and passed to `State::tick` by value, with a copy of what the slice owns; the state that came back is stored over the old one, and the borrow is closed at it.
+-- `machine::tick_in_place` meets its contract: a walk of its MIR, by hand. The borrow is opened, the state is copied out and passed to `State::tick` by value, with a copy of what the slice owns; the state that came back is copied out and stored over the old one, and the borrow is closed at it.
 -- All that the proof knows of `State::tick` is that it meets its contract. Assumes nothing.
 use mathlib.Core.Path.{_≡_, refl, ap}
 use Prim.Native.Nat.{ℕ, _<_, _^_}
@@ -123,30 +123,31 @@ module _ {M : Type 1} (𝓤 : URA M) (H : Heap 𝓤) (A : Atoms 𝓤) (W : Given
         peeks ! u16 (Is u16) (shows 𝓤 H A u16) n (vint w16 n ∷ []) (λ gn. move ! (3 ∷ []) $ fsplit3 ! $ drop ! $ move ! (0 ∷ 1 ∷ 5 ∷ 6 ∷ 4 ∷ []) $
         -- [obs; the borrow; the token; the slice's token; what the slice owns; what the number owns; true]
         enter ! C Λ code.function (vptr b o ∷ v ∷ vint w16 n ∷ []) _ $
-        alloc1 ! (λ l₀. alloc1 ! (λ l₁. alloc1 ! (λ l₂. alloc1 ! (λ l₃. alloc1 ! (λ l₄. alloc1 ! (λ l₅. alloc0 ! $ params1 ! $
-        pass1 ! (init ! 8 refl (tt, tt)) $ pass1 ! (init ! 6 refl (shr-slice-lawful 𝓤 H A W (named 1) κ′ u8 .typed s (v ∷ []) p .0)) $ pass1 ! (init ! 4 refl (tt, record { fits = gn .1 })) $ pass0 ! $
-        move ! (12 ∷ 13 ∷ 14 ∷ []) $ opens ! tt R {h = h} b o (λ vs. spelt ! R (Is R) (shows 𝓤 H A R) (LL.vals T.the-type T′.the-laws) (LL.tells T.the-type T′.the-laws) fullShare h vs b o $
+        alloc1 ! (λ l₀. alloc1 ! (λ l₁. alloc1 ! (λ l₂. alloc1 ! (λ l₃. alloc1 ! (λ l₄. alloc1 ! (λ l₅. alloc1 ! (λ l₆. alloc0 ! $ params1 ! $
+        pass1 ! (init ! 10 refl (tt, tt)) $ pass1 ! (init ! 8 refl (shr-slice-lawful 𝓤 H A W (named 1) κ′ u8 .typed s (v ∷ []) p .0)) $ pass1 ! (init ! 6 refl (tt, record { fits = gn .1 })) $ pass0 ! $
+        move ! (14 ∷ 15 ∷ 16 ∷ []) $ opens ! tt R {h = h} b o (λ vs. spelt ! R (Is R) (shows 𝓤 H A R) (LL.vals T.the-type T′.the-laws) (LL.tells T.the-type T′.the-laws) fullShare h vs b o $
         move ! (1 ∷ []) $ peeks ! R (Is R) (shows 𝓤 H A R) h (mach h ∷ []) (λ g. move ! (1 ∷ 0 ∷ []) $
-        -- [the state's cell; what a State owns; the open borrow; obs; auth; _5; …; _4; …; _3; …; _2; …; _1; …; room for _0; …; the slice's token; what the slice owns]
-        assigns ! (of-opd ! (load ! (from ! (hop ! (look ! 13 refl) (stop !))) (look-raw ! 0 refl))) (from ! (stop !)) (init ! 7 refl (LL.lawful T.the-type T′.the-laws 𝓤 H A W .typed h _ g .0)) $
-        move ! (18 ∷ []) $ use1 W (‵ Own ⊛ ‵ Own) (shr-slice-copy 𝓤 H A W (named 1) κ′ u8 .twice s (v ∷ [])) $ split ! $
-        move ! (19 ∷ 3 ∷ 0 ∷ []) $ use3 W (raw (Tick 𝓤 H A at-mem run .pre to-tick)) (goes-tick (gn .1)) $
-        -- [what is asked; what the slice owns; the state's cell; the open borrow; obs; auth; _5; …; _4; …; _3; …; _2; …; _1; …; room for _0; …]
-        calls-at ! fm (Tick 𝓤 H A at-mem run) known to-tick (and-then ! (load ! (from ! (stop !)) (look ! 8 refl)) (and-then ! (load ! (from ! (stop !)) (look ! 12 refl)) (and-then ! (load ! (from ! (stop !)) (look ! 10 refl)) (no-more !)))) (λ w.
+        -- [the state's cell; what a State owns; the open borrow; obs; auth; _6; …; _5; …; _4; …; _3; …; _2; …; _1; …; room for _0; …; the slice's token; what the slice owns]
+        assigns ! (of-opd ! (load ! (from ! (hop ! (look ! 15 refl) (stop !))) (look-raw ! 0 refl))) (from ! (stop !)) (init ! 9 refl (LL.lawful T.the-type T′.the-laws 𝓤 H A W .typed h _ g .0)) $
+        move ! (20 ∷ []) $ use1 W (‵ Own ⊛ ‵ Own) (shr-slice-copy 𝓤 H A W (named 1) κ′ u8 .twice s (v ∷ [])) $ split ! $
+        move ! (21 ∷ 3 ∷ 0 ∷ []) $ use3 W (raw (Tick 𝓤 H A at-mem run .pre to-tick)) (goes-tick (gn .1)) $
+        -- [what is asked; what the slice owns; the state's cell; the open borrow; obs; auth; _6; …; _5; …; _4; …; _3; …; _2; …; _1; …; room for _0; …]
+        calls-at ! fm (Tick 𝓤 H A at-mem run) known to-tick (and-then ! (load ! (from ! (stop !)) (look ! 10 refl)) (and-then ! (load ! (from ! (stop !)) (look ! 14 refl)) (and-then ! (load ! (from ! (stop !)) (look ! 12 refl)) (no-more !)))) (λ w.
         use1 W (later (some (λ (r : Ticked). ((‵ (flft κ′ q′) ⊛ ‵ ftrue) ⊛ ‵ (B.the-row .own r (w ∷ []))) ⊛ raw (ensured 𝓤 H A by-value.ended (by-value.clauses 𝓤 H A at-mem run) (κ′, tt) (h, (s, (n, tt))) tt r)))) (id⊢ 𝓤 _) $ await ! tt $ pick ! (λ r.
         split ! $ move ! (1 ∷ []) $ use1 W (raw (fact 𝓤 (r ≡ tick (now s) h n))) (said r) $ heard ! (r ≡ tick (now s) h n) (λ e. split ! $ move ! (1 ∷ []) $
         peeks ! B.the-row (Is B.the-row) (shows 𝓤 H A B.the-row) r (w ∷ []) (λ is.
-        -- [what a Ticked owns; the slice's token; what the slice owns; the state's cell; the open borrow; obs; auth; _5; …; _4; …; _3; …; _2; …; _1; …; room for _0; …]
-        land ! (from ! (stop !)) (init ! 7 refl (LL.lawful B.the-type B′.the-laws 𝓤 H A W .typed r _ is .0)) $
-        rewrite ! 7 (λ (u : Val). ‵ (fat fullShare B′.mir l₅ 0 u)) (ap only (LL.tells B.the-type B′.the-laws r _ is)) refl $
-        assigns ! (of-opd ! (load ! (from ! (fld ! refl (stop !))) (look-in ! 7 (sub ! 1 refl (whole !))))) (from ! (hop ! (look ! 15 refl) (stop !))) (store-raw ! 3 refl (LL.lawful T.the-type T′.the-laws 𝓤 H A W .typed (r .state) _ (LL.owed B.the-type B′.the-laws r _ is .1 .0) .0)) $
-        assigns ! (of-opd ! (load ! (from ! (fld ! refl (stop !))) (look-in ! 7 (sub ! 0 refl (whole !))))) (from ! (stop !)) (init ! 17 refl (LL.lawful S.the-type S′.the-laws 𝓤 H A W .typed (r .answer) _ (LL.owed B.the-type B′.the-laws r _ is .0) .0)) $
+        -- [what a Ticked owns; the slice's token; what the slice owns; the state's cell; the open borrow; obs; auth; _6; …; _5; …; _4; …; _3; …; _2; …; _1; …; room for _0; …]
+        land ! (from ! (stop !)) (init ! 9 refl (LL.lawful B.the-type B′.the-laws 𝓤 H A W .typed r _ is .0)) $
+        rewrite ! 9 (λ (u : Val). ‵ (fat fullShare B′.mir l₅ 0 u)) (ap only (LL.tells B.the-type B′.the-laws r _ is)) refl $
+        assigns ! (of-opd ! (load ! (from ! (fld ! refl (stop !))) (look-in ! 9 (sub ! 1 refl (whole !))))) (from ! (stop !)) (init ! 7 refl (LL.lawful T.the-type T′.the-laws 𝓤 H A W .typed (r .state) _ (LL.owed B.the-type B′.the-laws r _ is .1 .0) .0)) $
+        assigns ! (of-opd ! (load ! (from ! (stop !)) (look ! 7 refl))) (from ! (hop ! (look ! 17 refl) (stop !))) (store-raw ! 3 refl (LL.lawful T.the-type T′.the-laws 𝓤 H A W .typed (r .state) _ (LL.owed B.the-type B′.the-laws r _ is .1 .0) .0)) $
+        assigns ! (of-opd ! (load ! (from ! (fld ! refl (stop !))) (look-in ! 9 (sub ! 0 refl (whole !))))) (from ! (stop !)) (init ! 19 refl (LL.lawful S.the-type S′.the-laws 𝓤 H A W .typed (r .answer) _ (LL.owed B.the-type B′.the-laws r _ is .0) .0)) $
         drop ! $ owned ! R (Is R) (LL.makes T.the-type T′.the-plain 𝓤 H A) (r .state) _ (LL.owed B.the-type B′.the-laws r _ is .1 .0) $
         move ! (3 ∷ 0 ∷ 4 ∷ 5 ∷ 6 ∷ []) $ closes ! tt R (r .state) (mach (r .state) ∷ []) b o $
-        -- [obs; the borrow; the token; the slice's token; what the slice owns; _5; …; _4; …; _3; …; _2; …; _1; …; _0; …]
-        returns ! (look ! 15 refl) $ forget ! 5 refl $ forget ! 7 refl $ forget ! 9 refl $ forget ! 11 refl $ forget ! 13 refl $ forget ! 15 refl $
-        move ! (15 ∷ 16 ∷ []) $ free1 ! $ move ! (13 ∷ 14 ∷ []) $ free1 ! $ move ! (11 ∷ 12 ∷ []) $ free1 ! $ move ! (9 ∷ 10 ∷ []) $ free1 ! $ move ! (7 ∷ 8 ∷ []) $ free1 ! $ move ! (5 ∷ 6 ∷ []) $ free1 ! $ free0 ! $
-        keep ! (0 ∷ 1 ∷ 2 ∷ 3 ∷ 4 ∷ []) $ by ! (exits r _ (LL.owed B.the-type B′.the-laws r _ is .0) e (gn .1)))))))))))))))
+        -- [obs; the borrow; the token; the slice's token; what the slice owns; _6; …; _5; …; _4; …; _3; …; _2; …; _1; …; _0; …]
+        returns ! (look ! 17 refl) $ forget ! 5 refl $ forget ! 7 refl $ forget ! 9 refl $ forget ! 11 refl $ forget ! 13 refl $ forget ! 15 refl $ forget ! 17 refl $
+        move ! (17 ∷ 18 ∷ []) $ free1 ! $ move ! (15 ∷ 16 ∷ []) $ free1 ! $ move ! (13 ∷ 14 ∷ []) $ free1 ! $ move ! (11 ∷ 12 ∷ []) $ free1 ! $ move ! (9 ∷ 10 ∷ []) $ free1 ! $ move ! (7 ∷ 8 ∷ []) $ free1 ! $ move ! (5 ∷ 6 ∷ []) $ free1 ! $ free0 ! $
+        keep ! (0 ∷ 1 ∷ 2 ∷ 3 ∷ 4 ∷ []) $ by ! (exits r _ (LL.owed B.the-type B′.the-laws r _ is .0) e (gn .1))))))))))))))))
 
 module _ {M : Type 1} (𝓤 : URA M) (H : Heap 𝓤) (A : Atoms 𝓤) (W : Given 𝓤 H A) (at-mem : Memory → SProp 𝓤) (run : Routine → Fun 𝓤) where
   walks : (C : Calls 𝓤 H) (Λ : Loops 𝓤 H) → FmC 𝓤 H (W .laws) C → Triple 𝓤 (C #machine·State·tick) (Tick 𝓤 H A at-mem run) → Walks 𝓤 H A this.ended stayed (WpFn 𝓤 H C Λ code.function) (this.clauses 𝓤 H A at-mem run)

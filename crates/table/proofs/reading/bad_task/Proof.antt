@@ -1,15 +1,13 @@
+use Rattle.table.specs.Memory.{noSucc, zeroTask}
 use Rattle.table.specs.Reading.{badTask}
-use Rattle.table.specs.Memory.{noCosts}
-use borrow.Author.Needs.{needs}
+use Rattle.table.specs.Parts.{found}
+use mathlib.Core.Path.{refl}
 use Rattle.table.proofs.reading.bad_task.Statement.{statement}
 use Rattle.table.proofs.reading.bad_task.Tie as tie
 
-zero-task-requires : tie.Need-zero-task-requires
-zero-task-requires c κs = search needs
-
 returns : tie.Need-returns
-unfolding badTask noCosts
-returns c = rw (c .zero-task .ensures)
+unfolding found badTask zeroTask noSucc
+returns c = refl
 
 pub bad-task-spec : {M : Type 1} → statement M
-bad-task-spec = tie.close (tie.spec zero-task-requires returns)
+bad-task-spec = tie.close (tie.spec returns)

@@ -5,7 +5,7 @@ use lib.ListN.{length, getD}
 use lib.Seq.{sets}
 use borrow.Author.Needs.{needs}
 use Rattle.table.specs.Writing.{bytes4}
-use Rattle.writer.specs.Checking.{costBytes}
+use Rattle.writer.specs.Putting.{costBytes}
 use Rattle.writer.proofs.PutLaws.{sets-then, costsFrom, costs-start, costs-next, costs-last, four-long}
 use Rattle.writer.proofs.writing.put_costs.Statement.{statement}
 use Rattle.writer.proofs.writing.put_costs.Tie as tie

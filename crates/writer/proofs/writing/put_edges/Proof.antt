@@ -6,8 +6,8 @@ use lib.ListN.{length, getD}
 use lib.Seq.{sets}
 use borrow.Author.Needs.{needs}
 use Rattle.table.specs.Writing.{edgeBytes}
-use Rattle.writer.specs.Checking.{rowKeys, keysOf}
-use Rattle.writer.proofs.TestLaws.{keysFrom, keys-start, keys-end}
+use Rattle.checks.specs.Checking.{rowKeys, keysOf}
+use Rattle.checks.proofs.TestLaws.{keysFrom, keys-start, keys-end}
 use Rattle.writer.proofs.PutLaws.{sets-then, rows-bytes, rows-long, no-edges}
 use Rattle.table.proofs.Places.{edges-long}
 use Rattle.writer.proofs.writing.put_edges.Statement.{statement}

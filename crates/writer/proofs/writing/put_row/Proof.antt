@@ -9,7 +9,7 @@ use mir.Val.{Fits}
 use mir.Syntax.{w16}
 use borrow.Author.Needs.{needs}
 use Rattle.table.specs.Writing.{edgeBytes}
-use Rattle.writer.specs.Checking.{rowKeys}
+use Rattle.checks.specs.Checking.{rowKeys}
 use Rattle.writer.proofs.PutLaws.{next-bit, no-bits, put-key, no-edges}
 use Rattle.writer.proofs.writing.put_row.Statement.{statement}
 use Rattle.writer.proofs.writing.put_row.Tie as tie

@@ -1,11 +1,12 @@
 use mathlib.Core.List.{[], _∷_}
-use mathlib.Core.Path.{_≡_, ap, _∙_}
+use mathlib.Core.Path.{_≡_, sym, ap, _∙_}
 use Prim.Native.Nat.{ℕ, _%_}
 use native.Mathlib.Omega.{arith}
 use lib.Seq.{sets}
 use lib.ListN.{length}
 use borrow.Author.Needs.{needs}
-use Rattle.writer.specs.Checking.{keysOf}
+use Rattle.checks.specs.Checking.{keysOf}
+use Rattle.checks.proofs.TestLaws.{edges-counted}
 use Rattle.writer.proofs.PutLaws.{task-long, task-put}
 use Rattle.writer.proofs.writing.put_task.Statement.{statement}
 use Rattle.writer.proofs.writing.put_task.Tie as tie
@@ -13,8 +14,8 @@ use Rattle.writer.proofs.writing.put_task.Tie as tie
 cast-v : tie.Need-cast-v
 cast-v c = search needs
 
-edge-count-requires : tie.Need-edge-count-requires
-edge-count-requires c κs = search needs
+edges-of-requires : tie.Need-edges-of-requires
+edges-of-requires c κs = search needs
 
 cast-put-head : tie.Need-cast-put-head
 cast-put-head c = search needs
@@ -111,8 +112,8 @@ returns c =
     let a = s .args in
     let n = task-long (a .task) (a .costs .now) (a .slot) in
     let e₂ = s .pre .0 .1 in
-    let e = c .before .before .before .before .before .before .before .before .before .before .before .before .before .before .before .before .before .before .before .before .edge-count in
-    let f = e .ensures .0 in
+    let e = c .before .before .before .before .before .before .before .before .before .before .before .before .before .before .before .before .before .before .before .before .edges-of in
+    let f = e .ensures ∙ sym (edges-counted (a .task .v) (a .task .succ) (s .pre .0 .0)) in
     let q : e .result % 256 ≡ length (keysOf (a .task .v) (a .task .succ)) = omega arith in
     let h : c .before .before .before .before .before .before .before .before .before .before .before .before .before .before .before .before .before .before .put-head .last .0 ≡ sets (a .buffer .now) (a .at) (0x54 ∷ 0x4B ∷ a .task .v ∷ length (keysOf (a .task .v) (a .task .succ)) ∷ []) =
     c .before .before .before .before .before .before .before .before .before .before .before .before .before .before .before .before .before .before .put-head .ensures ∙ ap (λ (k : ℕ). sets (a .buffer .now) (a .at) (0x54 ∷ 0x4B ∷ a .task .v ∷ k ∷ [])) q in
@@ -124,7 +125,7 @@ put-task-spec =
     tie.close
     (tie.spec
     cast-v
-    edge-count-requires
+    edges-of-requires
     cast-put-head
     put-head-requires
     add-put4

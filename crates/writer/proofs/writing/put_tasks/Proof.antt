@@ -7,7 +7,7 @@ use borrow.Author.Needs.{needs}
 use Rattle.graph.specs.Words.{inOrder}
 use Rattle.table.specs.Memory.{task, noTask}
 use Rattle.table.specs.Writing.{encodeTask}
-use Rattle.writer.specs.Checking.{taskBytes}
+use Rattle.writer.specs.Putting.{taskBytes}
 use Rattle.writer.proofs.Passed.{passed-n, passed-counts}
 use Rattle.writer.proofs.PutLaws.{sets-then, tasksFrom, tasks-first, tasks-then, tasks-done}
 use Rattle.writer.proofs.writing.put_tasks.Statement.{statement}

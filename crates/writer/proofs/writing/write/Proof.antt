@@ -3,21 +3,21 @@ use native.Mathlib.Omega.{arith}
 use lib.ListN.{length}
 use borrow.Author.Tests.{not-true, not-false}
 use borrow.Author.Needs.{needs}
-use Rattle.writer.specs.Checking.{checked}
+use Rattle.checks.specs.Checking.{checked}
 use Rattle.table.specs.Good.{Typed}
-use Rattle.writer.specs.declared.Checked.{Checked}
+use Rattle.checks.specs.declared.Checked.{Checked}
 use Rattle.table.specs.declared.Written.the-variants.{Done, Room}
 use Rattle.table.specs.declared.Outcome.the-variants.{Read}
 use Rattle.writer.proofs.WriteLaws.{says-refused, says-unused, says-room, says-done, kept-refused, kept-unused, kept-room, put-done}
 use Rattle.writer.proofs.PutLaws.{file-long, file-put}
-use Rattle.writer.proofs.Checks.{checked-length}
+use Rattle.checks.proofs.Checks.{checked-length}
 use Rattle.writer.proofs.TypedTable.{typed-table}
 use Rattle.writer.proofs.writing.write.Statement.{statement}
 use Rattle.writer.proofs.writing.write.Tie as tie
 use Rattle.writer.proofs.writing.write.Reads as reads
 use Rattle.writer.proofs.writing.write.Lts as lts
-use Rattle.writer.proofs.checking.check.Reads as check-reads
-use Rattle.writer.proofs.entries.unused_zero.Reads as unused-zero-reads
+use Rattle.checks.proofs.check.Reads as check-reads
+use Rattle.checks.proofs.unused_zero.Reads as unused-zero-reads
 use Rattle.writer.proofs.writing.put_head.Reads as put-head-reads
 use Rattle.writer.proofs.writing.put_tasks.Reads as put-tasks-reads
 

@@ -1,0 +1,357 @@
+/* Job tables in plain C, for speed beside the proved functions. Written from document 01 alone. */
+#include "plain.h"
+#include <stdbool.h>
+#include <string.h>
+
+enum { MOST_PROCESSORS = 8, MOST_EDGES = 120, MOST_TICKS = 1000000 };
+
+static bool between(uint32_t x, uint32_t low, uint32_t high) {
+    return low <= x && x <= high;
+}
+
+/* The vertices in an order in which each stands after its predecessors; fewer than v where there is a cycle. */
+static int sorted(const struct plain_task *task, uint8_t order[PLAIN_VERTICES]) {
+    uint8_t before[PLAIN_VERTICES] = {0};
+    for (int u = 0; u < task->v; u++)
+        EACH(w, task->succ[u]) before[w]++;
+    int count = 0;
+    for (int u = 0; u < task->v; u++)
+        if (before[u] == 0)
+            order[count++] = (uint8_t)u;
+    for (int i = 0; i < count; i++)
+        EACH(w, task->succ[order[i]])
+            if (--before[w] == 0)
+                order[count++] = (uint8_t)w;
+    return count;
+}
+
+/* ---- reading ---- */
+
+struct input {
+    const uint8_t *bytes;
+    size_t count, at;
+};
+
+static bool has(const struct input *in, size_t size) {
+    return in->count - in->at >= size;
+}
+
+static uint32_t number32(const uint8_t *p) {
+    return (uint32_t)p[0] | (uint32_t)p[1] << 8 | (uint32_t)p[2] << 16 | (uint32_t)p[3] << 24;
+}
+
+/* Each field: its number where it is refused, with `at` still on it, or 0 and `at` behind it. */
+static int read_mark(struct input *in, uint8_t second) {
+    if (!has(in, 2))
+        return 1;
+    if (in->bytes[in->at] != 0x54 || in->bytes[in->at + 1] != second)
+        return 2;
+    in->at += 2;
+    return 0;
+}
+
+static int read_byte(struct input *in, uint8_t low, uint8_t high, uint8_t *x) {
+    if (!has(in, 1))
+        return 1;
+    *x = in->bytes[in->at];
+    if (!between(*x, low, high))
+        return 3;
+    in->at++;
+    return 0;
+}
+
+static int read_ticks(struct input *in, uint32_t *x) {
+    if (!has(in, 4))
+        return 1;
+    *x = number32(in->bytes + in->at);
+    if (!between(*x, 1, MOST_TICKS))
+        return 4;
+    in->at += 4;
+    return 0;
+}
+
+static int read_edges(struct input *in, struct plain_task *task, int e) {
+    int last = -1;
+    for (int i = 0; i < e; i++) {
+        if (!has(in, 2))
+            return 1;
+        int from = in->bytes[in->at], to = in->bytes[in->at + 1];
+        if (from >= task->v || to >= task->v || from == to || 256 * from + to <= last)
+            return 6;
+        last = 256 * from + to;
+        task->succ[from] |= (uint16_t)(1u << to);
+        in->at += 2;
+    }
+    return 0;
+}
+
+static int read_task(struct input *in, struct plain_task *task, uint32_t *costs) {
+    size_t mark = in->at;
+    uint8_t e, order[PLAIN_VERTICES];
+    int number;
+    if ((number = read_mark(in, 0x4B)) || (number = read_byte(in, 1, PLAIN_VERTICES, &task->v)) ||
+        (number = read_byte(in, 0, MOST_EDGES, &e)) || (number = read_ticks(in, &task->deadline)) ||
+        (number = read_ticks(in, &task->period)))
+        return number;
+    if (task->deadline > task->period) {
+        in->at -= 4;
+        return 5;
+    }
+    for (int h = 0; h < task->v; h++)
+        if ((number = read_ticks(in, &costs[h])))
+            return number;
+    if ((number = read_edges(in, task, e)))
+        return number;
+    if (sorted(task, order) < task->v) {
+        in->at = mark;
+        return 7;
+    }
+    return 0;
+}
+
+static int read_table(struct input *in, struct plain_table *table) {
+    int number;
+    if ((number = read_mark(in, 0x42)) || (number = read_byte(in, 1, MOST_PROCESSORS, &table->m)) ||
+        (number = read_byte(in, 1, PLAIN_TASKS, &table->n)))
+        return number;
+    for (int i = 0; i < table->n; i++)
+        if ((number = read_task(in, &table->tasks[i], &table->costs[PLAIN_VERTICES * i])))
+            return number;
+    return in->at < in->count ? 8 : 0;
+}
+
+struct plain_answer plain_read(const uint8_t *bytes, size_t count, struct plain_table *table) {
+    struct input in = {bytes, count, 0};
+    memset(table, 0, sizeof *table);
+    int number = read_table(&in, table);
+    if (number == 0)
+        return (struct plain_answer){0, PLAIN_NONE, 0};
+    memset(table, 0, sizeof *table);
+    return (struct plain_answer){(uint8_t)number, PLAIN_NONE, in.at};
+}
+
+/* ---- writing ---- */
+
+/* The first rule from 3 to 7 that a task breaks, with `at` on the place; else 0 and `at` behind the task. */
+static int check_task(const struct plain_task *task, const uint32_t *costs, size_t *at) {
+    size_t mark = *at;
+    uint8_t order[PLAIN_VERTICES];
+    int e = 0;
+    *at = mark + 2;
+    if (!between(task->v, 1, PLAIN_VERTICES))
+        return 3;
+    for (int u = 0; u < task->v; u++)
+        e += __builtin_popcount(task->succ[u]);
+    *at = mark + 3;
+    if (e > MOST_EDGES)
+        return 3;
+    *at = mark + 4;
+    if (!between(task->deadline, 1, MOST_TICKS))
+        return 4;
+    *at = mark + 8;
+    if (!between(task->period, 1, MOST_TICKS))
+        return 4;
+    if (task->deadline > task->period)
+        return 5;
+    *at = mark + 12;
+    for (int h = 0; h < task->v; h++, *at += 4)
+        if (!between(costs[h], 1, MOST_TICKS))
+            return 4;
+    for (int u = 0; u < task->v; u++)
+        EACH(w, task->succ[u]) {
+            if (w >= task->v || w == (unsigned)u)
+                return 6;
+            *at += 2;
+        }
+    if (sorted(task, order) == task->v)
+        return 0;
+    *at = mark;
+    return 7;
+}
+
+/* Whether the unused entries are zero. */
+static bool tidy(const struct plain_table *table) {
+    for (int i = 0; i < PLAIN_TASKS; i++) {
+        const struct plain_task *task = &table->tasks[i];
+        int v = i < table->n ? task->v : 0;
+        if (i >= table->n && (task->v != 0 || task->deadline != 0 || task->period != 0))
+            return false;
+        for (int h = v; h < PLAIN_VERTICES; h++)
+            if (task->succ[h] != 0 || table->costs[PLAIN_VERTICES * i + h] != 0)
+                return false;
+    }
+    return true;
+}
+
+static uint8_t *put32(uint8_t *p, uint32_t x) {
+    for (int i = 0; i < 4; i++)
+        *p++ = (uint8_t)(x >> 8 * i);
+    return p;
+}
+
+static uint8_t *put_task(uint8_t *p, const struct plain_task *task, const uint32_t *costs) {
+    *p++ = 0x54;
+    *p++ = 0x4B;
+    *p++ = task->v;
+    uint8_t *e = p++;
+    *e = 0;
+    p = put32(put32(p, task->deadline), task->period);
+    for (int h = 0; h < task->v; h++)
+        p = put32(p, costs[h]);
+    for (int u = 0; u < task->v; u++)
+        EACH(w, task->succ[u]) {
+            *p++ = (uint8_t)u;
+            *p++ = (uint8_t)w;
+            ++*e;
+        }
+    return p;
+}
+
+struct plain_answer plain_write(const struct plain_table *table, uint8_t *buffer, size_t room) {
+    size_t length = 4;
+    if (!between(table->m, 1, MOST_PROCESSORS))
+        return (struct plain_answer){3, PLAIN_NONE, 2};
+    if (!between(table->n, 1, PLAIN_TASKS))
+        return (struct plain_answer){3, PLAIN_NONE, 3};
+    for (int i = 0; i < table->n; i++) {
+        int number = check_task(&table->tasks[i], &table->costs[PLAIN_VERTICES * i], &length);
+        if (number != 0)
+            return (struct plain_answer){(uint8_t)number, PLAIN_NONE, length};
+    }
+    if (!tidy(table))
+        return (struct plain_answer){10, PLAIN_NONE, 0};
+    if (room < length)
+        return (struct plain_answer){9, PLAIN_NONE, length};
+    uint8_t *p = buffer;
+    *p++ = 0x54;
+    *p++ = 0x42;
+    *p++ = table->m;
+    *p++ = table->n;
+    for (int i = 0; i < table->n; i++)
+        p = put_task(p, &table->tasks[i], &table->costs[PLAIN_VERTICES * i]);
+    return (struct plain_answer){0, PLAIN_NONE, length};
+}
+
+/* ---- the verdict ---- */
+
+struct figures {
+    int64_t vol[PLAIN_TASKS], len[PLAIN_TASKS], due[PLAIN_TASKS], margin[PLAIN_TASKS];
+};
+
+static int64_t longest(const struct plain_task *task, const uint32_t *costs) {
+    uint8_t order[PLAIN_VERTICES];
+    uint32_t ahead[PLAIN_VERTICES] = {0}, most = 0;
+    int count = sorted(task, order);
+    for (int i = 0; i < count; i++) {
+        int u = order[i];
+        uint32_t here = ahead[u] + costs[u];
+        if (here > most)
+            most = here;
+        EACH(w, task->succ[u])
+            if (here > ahead[w])
+                ahead[w] = here;
+    }
+    return most;
+}
+
+static void figure(const struct plain_table *table, struct figures *f) {
+    int m = table->m, n = table->n;
+    for (int i = 0; i < n; i++) {
+        const uint32_t *costs = &table->costs[PLAIN_VERTICES * i];
+        f->vol[i] = 0;
+        for (int h = 0; h < table->tasks[i].v; h++)
+            f->vol[i] += costs[h];
+        f->len[i] = longest(&table->tasks[i], costs);
+    }
+    for (int k = 0; k < n; k++) {
+        uint32_t d = table->tasks[k].deadline;
+        f->due[k] = 0;
+        for (int i = 0; i < n; i++) {
+            uint32_t t = table->tasks[i].period;
+            f->due[k] += (int64_t)((d + t - 1) / t) * f->vol[i];
+        }
+        f->margin[k] = m * (int64_t)d - (m - 1) * f->len[k] - f->due[k];
+    }
+}
+
+static struct plain_verdict judge(const struct plain_table *table, const struct figures *f) {
+    int n = table->n, least = 0;
+    for (int k = 0; k < n; k++)
+        if (f->margin[k] < 0)
+            return (struct plain_verdict){20, (uint8_t)k, 0, f->margin[k]};
+    for (int k = 0; k < n; k++)
+        if (f->len[k] > table->tasks[k].deadline)
+            return (struct plain_verdict){21, (uint8_t)k, 0, f->margin[k]};
+    for (int k = 1; k < n; k++)
+        if (f->margin[k] < f->margin[least])
+            least = k;
+    return (struct plain_verdict){0, (uint8_t)least, 0, f->margin[least]};
+}
+
+struct plain_verdict plain_verdict(const uint8_t *bytes, size_t count) {
+    struct plain_table table;
+    struct figures f;
+    struct plain_answer found = plain_read(bytes, count, &table);
+    if (found.number != 0)
+        return (struct plain_verdict){found.number, PLAIN_NONE, found.place, 0};
+    figure(&table, &f);
+    return judge(&table, &f);
+}
+
+/* ---- the report ---- */
+
+/* The digits by hand, as on a board without stdio. */
+static uint8_t *say(uint8_t *p, const char *words, int64_t x) {
+    uint8_t digits[20];
+    uint64_t rest = x < 0 ? -(uint64_t)x : (uint64_t)x;
+    int count = 0;
+    while (*words != 0)
+        *p++ = (uint8_t)*words++;
+    if (x < 0)
+        *p++ = '-';
+    do {
+        digits[count++] = (uint8_t)('0' + rest % 10);
+        rest /= 10;
+    } while (rest != 0);
+    while (count > 0)
+        *p++ = digits[--count];
+    return p;
+}
+
+static uint8_t *say_table(uint8_t *p, const struct plain_table *table) {
+    struct figures f;
+    figure(table, &f);
+    p = say(say(p, "processors ", table->m), " tasks ", table->n);
+    *p++ = '\n';
+    for (int k = 0; k < table->n; k++) {
+        p = say(say(say(p, "task ", k), " vol ", f.vol[k]), " len ", f.len[k]);
+        p = say(say(p, " due ", f.due[k]), " margin ", f.margin[k]);
+        *p++ = '\n';
+    }
+    struct plain_verdict v = judge(table, &f);
+    if (v.number == 0) {
+        memcpy(p, "accept", 6);
+        p += 6;
+    } else {
+        p = say(p, "refuse ", v.number);
+    }
+    p = say(say(p, " task ", v.task), " margin ", v.margin);
+    *p++ = '\n';
+    return p;
+}
+
+size_t plain_report(const uint8_t *bytes, size_t count, uint8_t *buffer, size_t room) {
+    uint8_t text[PLAIN_REPORT_MOST], *end;
+    struct plain_table table;
+    struct plain_answer found = plain_read(bytes, count, &table);
+    if (found.number == 0) {
+        end = say_table(text, &table);
+    } else {
+        end = say(say(text, "unreadable ", found.number), " at ", (int64_t)found.place);
+        *end++ = '\n';
+    }
+    size_t length = (size_t)(end - text);
+    if (length <= room)
+        memcpy(buffer, text, length);
+    return length;
+}

@@ -1,0 +1,104 @@
+//! Holds the plain C version against the second program, so that what is measured is the same work.
+
+use crate::plain;
+use compare::{face, judging, reading, writing};
+use second::flat::FlatState;
+use second::random::*;
+use second::table::LARGEST;
+use second::Table;
+
+/// Random inputs, damaged ones among them, beside those that are measured.
+const RANDOM: u64 = 20_000;
+
+/// Ends the program where the plain C version differs on these tables, or on random inputs.
+pub fn check(tables: &[Table]) {
+    for table in tables {
+        whole(&file(table));
+        write(table);
+    }
+    for seed in 0..RANDOM {
+        let r = &mut Random::new(seed);
+        whole(&reading::input(r));
+        whole(&judging::input(r));
+        write(&writing::input(r));
+        run(r);
+    }
+}
+
+fn flat(state: &second::State) -> face::State {
+    face::State::from(&FlatState::from(state))
+}
+
+fn same<T: PartialEq + std::fmt::Debug>(what: &str, plain: T, second: T) {
+    if plain != second {
+        eprintln!("the plain C version's {what} differs:\n{plain:?}\nand not\n{second:?}");
+        std::process::exit(1);
+    }
+}
+
+/// Reading, the verdict and the report of a file, and opening it.
+fn whole(bytes: &[u8]) {
+    let found = second::read(bytes);
+    let mut table = plain::no_table();
+    let answer = plain::read(bytes, &mut table);
+    same("number", answer.number, found.number);
+    same("place", answer.place, found.place);
+    same("table", table, face::Table::from(&found.table));
+    let v = second::verdict(bytes);
+    let theirs = face::VerdictAnswer {
+        number: v.number,
+        task: v.task,
+        place: v.place as u64,
+        margin: v.margin,
+    };
+    same("verdict", plain::verdict(bytes), theirs);
+    let text = second::report(bytes);
+    let mut buffer = [0u8; face::REPORT_MOST];
+    let length = plain::report(bytes, &mut buffer);
+    same("report", &buffer[..length], &text[..]);
+    let opened = second::open(bytes, 7);
+    let mut state = flat(&opened.state);
+    state.clock = 1;
+    plain::open(bytes, 7, &mut state);
+    same("opening", state, flat(&opened.state));
+}
+
+fn write(table: &Table) {
+    let (mut mine, mut theirs) = ([0xA5u8; LARGEST], [0xA5u8; LARGEST]);
+    let answer = plain::write(&face::Table::from(table), &mut mine);
+    let said = second::write(table, &mut theirs);
+    same("writing", (answer.number, answer.place), said);
+    same("file", mine, theirs);
+}
+
+/// A run of ticks, each on the state before: allowed releases, now and then any, or a damaged state.
+fn run(r: &mut Random) {
+    let roomy = r.coin();
+    let table = if r.coin() {
+        tiny_table(r, roomy)
+    } else {
+        near_edge(r, 3, 5, 30)
+    };
+    let bytes = file(&table);
+    let mut state = reached(r, &table, 20);
+    for _ in 0..12 {
+        let set = if r.one_in(6) {
+            r.word() as u16
+        } else {
+            releases(r, &table, &state)
+        };
+        let before = if r.one_in(6) {
+            damaged_state(r, &state, 1)
+        } else {
+            state
+        };
+        let mut after = flat(&before);
+        let answer = plain::tick(&bytes, &mut after, set);
+        let ticked = second::tick(&bytes, &before, set);
+        same("tick", answer, plain::Ticked::from(&ticked.answer));
+        same("state", after, flat(&ticked.state));
+        if ticked.answer.number == 0 {
+            state = ticked.state;
+        }
+    }
+}

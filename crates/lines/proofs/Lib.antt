@@ -1,0 +1,8 @@
+-- THE LINES: their length; the first 5,061 bytes of a table are enough.
+pub mod Length
+pub mod Held
+-- THE CODE: laws that its proofs cite.
+pub mod Parted
+pub mod Lined
+pub mod Steps
+pub mod Unique

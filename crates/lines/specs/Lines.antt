@@ -1,0 +1,74 @@
+-- The lines that show a table run, as bytes: "one line each (ending in byte 10), fields parted by one space".
+use mathlib.Core.List.{List, [], _∷_, _++_}
+use Prim.Native.Nat.{ℕ, _-_}
+use lib.Dec.{eqb}
+use lib.ListN.{length, replicate}
+use Rattle.graph.specs.Words.{pick, bit, inOrder}
+use Rattle.text.specs.Text.{text, newline, decimal}
+use Rattle.table.specs.declared.Outcome.{Outcome}
+use Rattle.table.specs.declared.Table.{Table}
+use Rattle.table.specs.declared.Loaded.{Loaded}
+use Rattle.table.specs.Numbers.{number, place}
+use Rattle.table.specs.Reading.{whenRead, read}
+use Rattle.machine.specs.declared.Reply.{Reply}
+use Rattle.machine.specs.declared.Pair.{Pair}
+use Rattle.machine.specs.declared.Answer.{Answer}
+use Rattle.lines.specs.declared.Line.{Line}
+
+-- OPENING. "refuse NUMBER at PLACE": reading's
+unfoldable pub refuseLine : Outcome → List ℕ
+refuseLine o = text "refuse " ++ decimal (number o) ++ text " at " ++ decimal (place o) ++ newline
+
+-- "open CLOCK processors M tasks N"
+unfoldable pub openedLine : ℕ → Table → List ℕ
+openedLine clock t = text "open " ++ decimal clock ++ text " processors " ++ decimal (t .m) ++ text " tasks " ++ decimal (t .n) ++ newline
+
+unfoldable pub openLineRead : Loaded → ℕ → List ℕ
+openLineRead r clock = whenRead (r .outcome) refuseLine λ _. openedLine clock (r .table)
+
+unfoldable pub openLine : List ℕ → ℕ → List ℕ
+openLine s clock = openLineRead (read s) clock
+
+-- A TICK. A list of things, a space before each, "or `-`" where there is none
+unfoldable pub orDash : List ℕ → List ℕ
+orDash [] = text " -"
+orDash (b ∷ l) = b ∷ l
+
+-- "R and F are task numbers ascending parted by spaces": bit i of a set is task i, up to 15 whatever the table has
+unfoldable pub numberIn : ℕ → ℕ → List ℕ
+numberIn set i = pick (bit set i) (text " " ++ decimal i) []
+
+unfoldable pub numbersIn : ℕ → List ℕ
+numbersIn set = orDash (inOrder 16 (numberIn set))
+
+-- "X is task.vertex in rank order parted by spaces": an unused place of the run list shows nothing
+unfoldable pub vertexText : Pair → List ℕ
+vertexText p = pick (eqb (p .task) 255) [] (text " " ++ decimal (p .task) ++ text "." ++ decimal (p .vertex))
+
+unfoldable pub verticesText : List Pair → List ℕ
+verticesText [] = []
+verticesText (p ∷ ps) = vertexText p ++ verticesText ps
+
+-- "run X finish F"
+unfoldable pub wentText : Answer → List ℕ
+wentText a = text " run" ++ orDash (verticesText (a .ran)) ++ text " finish" ++ numbersIn (a .finished)
+
+-- "a miss adds ` miss TASK`"
+unfoldable pub missText : Answer → List ℕ
+missText a = wentText a ++ text " miss " ++ decimal (a .reply .task)
+
+-- "refuse NUMBER, with ` task TASK` where there is one": 255 is none
+unfoldable pub refusalText : Reply → List ℕ
+refusalText r = text " refuse " ++ decimal (r .number) ++ pick (eqb (r .task) 255) [] (text " task " ++ decimal (r .task))
+
+-- by the answer's number: 0, 34 or a refusal's
+unfoldable pub answerText : Answer → List ℕ
+answerText a = pick (eqb (a .reply .number) 0) (wentText a) (pick (eqb (a .reply .number) 34) (missText a) (refusalText (a .reply)))
+
+-- "tick CLOCK release R ..", where "CLOCK is the clock before the tick"
+unfoldable pub tickLine : ℕ → ℕ → Answer → List ℕ
+tickLine clock named a = text "tick " ++ decimal clock ++ text " release" ++ numbersIn named ++ answerText a ++ newline
+
+-- A LINE IN MEMORY: at the front of 512 bytes, with zeros behind it, and its length (`open-most`, `tick-most`, proofs/Length.antt)
+unfoldable pub lineOf : List ℕ → Line
+lineOf l = record { bytes = l ++ replicate (512 - length l) 0; len = length l }

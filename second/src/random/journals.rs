@@ -1,0 +1,150 @@
+//! Random journals: legal runs with ties broken at random, and damage to them.
+
+use super::{releases, Random};
+use crate::judge::{put_row, ROW_HEAD};
+use crate::machine::*;
+use crate::table::*;
+
+/// A choice of as many as may run: what must run, and any of those that tie
+/// for the last places; or, where `fair` is false, any that are available.
+pub fn choice(r: &mut Random, table: &Table, released: &State, fair: bool) -> Vec<Vertex> {
+    let ranked = rank(table, released);
+    let all = ranked.all();
+    let count = ranked.first(usize::from(table.m)).len();
+    let mut chosen: Vec<Vertex> = all.iter().copied().map(vertex_of).collect();
+    if count > 0 {
+        let last = left_of(all[count - 1]);
+        let must = all.partition_point(|entry| left_of(*entry) < last);
+        let upto = all.partition_point(|entry| left_of(*entry) <= last);
+        let (from, to) = if fair { (must, upto) } else { (0, all.len()) };
+        for place in from..count {
+            let other = place + r.below(to - place);
+            chosen.swap(place, other);
+        }
+    }
+    chosen.truncate(count);
+    chosen
+}
+
+/// A run of at most so many rows, as the bytes of each; it ends at a miss.
+/// Every choice is legal but that of row `unfair`, if there is one.
+pub fn rows_of(r: &mut Random, table: &Table, rows: usize, unfair: usize) -> Vec<Vec<u8>> {
+    let mut state = State::zeros(r.number(), Phase::Running);
+    let mut out = Vec::new();
+    while out.len() < rows && state.phase == Phase::Running {
+        let set = releases(r, table, &state);
+        let before = release(table, &state, set);
+        let chosen = choice(r, table, &before, out.len() != unfair);
+        let mut row = Vec::new();
+        put_row(&mut row, set, &chosen);
+        out.push(row);
+        state = go_on(table, &before, set, &chosen).state;
+    }
+    out
+}
+
+/// A legal run of at most so many rows.
+pub fn legal_rows(r: &mut Random, table: &Table, rows: usize) -> Vec<Vec<u8>> {
+    rows_of(r, table, rows, usize::MAX)
+}
+
+/// Damage to one row, as a whole or in a field; or bytes behind the last.
+pub fn damage_rows(r: &mut Random, table: &Table, rows: &mut Vec<Vec<u8>>) {
+    if rows.is_empty() || r.one_in(12) {
+        let stray = (0..r.below(9) + 1).map(|_| r.byte()).collect();
+        rows.push(stray);
+        return;
+    }
+    let at = r.below(rows.len());
+    match r.below(16) {
+        0 => drop(rows.remove(at)),
+        1 => rows.insert(at, rows[at].clone()),
+        2 => {
+            let other = r.below(rows.len());
+            rows.swap(at, other);
+        }
+        _ => damage_row(r, table, &mut rows[at]),
+    }
+}
+
+fn damage_row(r: &mut Random, table: &Table, row: &mut Vec<u8>) {
+    if row.len() < ROW_HEAD {
+        row.push(r.byte());
+        return;
+    }
+    let count = (row.len() - ROW_HEAD) / 2;
+    let pair = |k: usize| ROW_HEAD + 2 * k;
+    let task = r.below_either(usize::from(table.n), ENTRIES + 1) as u8;
+    let vertex = r.below_either(6, ENTRIES + 1) as u8;
+    match r.below(10) {
+        0 => row[r.below(2)] ^= 1 << r.below(8),
+        1 => row[2 + r.below(2)] ^= 1 << r.below(8),
+        2 => row[4] = r.below_either(10, 256) as u8,
+        3 if count > 0 => {
+            let k = pair(r.below(count));
+            row.drain(k..k + 2).for_each(drop);
+            row[4] = row[4].wrapping_sub(1);
+        }
+        4 if count > 0 => {
+            let k = pair(r.below(count));
+            let again = [row[k], row[k + 1]];
+            row.splice(k..k, again).for_each(drop);
+            row[4] = row[4].wrapping_add(1);
+        }
+        5 | 6 => {
+            let mut pairs: Vec<[u8; 2]> = (0..count)
+                .map(|k| [row[pair(k)], row[pair(k) + 1]])
+                .collect();
+            if count > 0 && r.coin() {
+                pairs.remove(r.below(count));
+            }
+            pairs.push([task, vertex]);
+            pairs.sort_unstable();
+            row.truncate(ROW_HEAD);
+            row[4] = pairs.len() as u8;
+            row.extend(pairs.concat());
+        }
+        7 if count > 0 => row[pair(r.below(count)) + 1] = vertex,
+        8 if count > 0 => row[pair(r.below(count))] = task,
+        9 if count > 1 => {
+            let (a, b) = (pair(r.below(count)), pair(r.below(count)));
+            row.swap(a, b);
+            row.swap(a + 1, b + 1);
+        }
+        _ => row.truncate(r.below(row.len())),
+    }
+}
+
+/// A journal of a table: legal, with a choice that is not, damaged in a few
+/// places, or cut short.
+pub fn journal(r: &mut Random, table: &Table, rows: usize) -> Vec<u8> {
+    let most = r.below(rows) + 1;
+    let unfair = if r.one_in(4) { r.below(most) } else { most };
+    let mut found = rows_of(r, table, most, unfair);
+    let damages = r.pick(&[0, 0, 0, 1, 1, 1, 2, 4]);
+    for _ in 0..damages {
+        damage_rows(r, table, &mut found);
+    }
+    let mut bytes = found.concat();
+    if r.one_in(8) {
+        bytes.truncate(r.below(bytes.len() + 1));
+    }
+    bytes
+}
+
+/// A table whose runs are short enough to end, miss and tie: small costs and
+/// deadlines, often equal.
+pub fn busy_table(r: &mut Random) -> Table {
+    let n = r.below_either(4, ENTRIES) + 1;
+    let mut table = super::table_sized(r, n, 6);
+    let most = r.pick(&[2, 3, 6, 12]);
+    for i in 0..n {
+        let deadline = r.range(1, 4 * most);
+        table.tasks[i].deadline = deadline;
+        table.tasks[i].period = deadline + r.pick(&[0, 0, 1, most]);
+        for h in 0..usize::from(table.tasks[i].v) {
+            table.costs[ENTRIES * i + h] = r.range(1, most);
+        }
+    }
+    table
+}
