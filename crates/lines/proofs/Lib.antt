@@ -7,5 +7,6 @@ pub mod Computed
 -- THE CODE: laws that its proofs cite.
 pub mod Parted
 pub mod Lined
+pub mod Rulings
 pub mod Steps
 pub mod Unique
