@@ -2,6 +2,7 @@
 
 pub mod comparison;
 pub mod face;
+pub mod journals;
 pub mod judging;
 pub mod opening;
 pub mod reading;
@@ -12,7 +13,7 @@ pub mod ticking;
 pub mod writing;
 
 /// Every comparison; a new one is a line here.
-pub const COMPARISONS: [comparison::Comparison; 7] = [
+pub const COMPARISONS: [comparison::Comparison; 8] = [
     reading::READING,
     writing::WRITING,
     judging::JUDGING,
@@ -20,4 +21,5 @@ pub const COMPARISONS: [comparison::Comparison; 7] = [
     opening::OPENING,
     ticking::TICKING,
     running::RUNNING,
+    journals::JOURNALS,
 ];
