@@ -175,14 +175,7 @@ pub fn tick(bytes: &[u8], state: State, releases: u16) -> TickAnswer {
 
 pub fn judge(bytes: &[u8], journal: &[u8]) -> Ruling {
     // Safe: both pointers and counts are those of slices, and any bytes get an answer.
-    unsafe {
-        entry::mt_judge(
-            bytes.as_ptr(),
-            bytes.len(),
-            journal.as_ptr(),
-            journal.len(),
-        )
-    }
+    unsafe { entry::mt_judge(bytes.as_ptr(), bytes.len(), journal.as_ptr(), journal.len()) }
 }
 
 impl From<&second::Table> for Table {
