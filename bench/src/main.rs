@@ -1,11 +1,11 @@
-//! Reads, writes, verdicts, reports, openings and ticks a second: ours beside the second program's and beside plain C's. The same inputs in one run,
-//! the sides in turn, so that other load falls on all. Buffers are not cleared in between. A ratio is ours over theirs: above 1,
+//! Reads, writes, verdicts, reports, openings, ticks and rows of journals a second: ours beside the second program's and beside plain
+//! C's. The same inputs in one run, the sides in turn, so that other load falls on all. Buffers are not cleared in between. A ratio is ours over theirs: above 1,
 //! ours is the quicker.
 
 use bench::ticking::{Load, Runs};
 use bench::{accepted, plain, plain_check, sizes, Size};
 use compare::face;
-use second::random::{file, Random};
+use second::random::{busy_rows, file, Random};
 use second::table::LARGEST;
 use second::Table;
 use std::hint::black_box;
@@ -39,6 +39,7 @@ fn main() {
         opening(size);
         ticking(size, Load::One);
         ticking(size, Load::All);
+        journals(size);
     }
 }
 
@@ -148,32 +149,67 @@ fn ticking(size: &Size, load: Load) {
     assert!(second.agree(&plain), "the runs in plain C differ");
 }
 
+/// Rows of a journal that is measured.
+const ROWS: usize = 400;
+
+/// Legal journals, every task released whenever it may be and ties broken at random; counted by their rows. Plain C has no judge.
+fn journals(size: &Size) {
+    let r = &mut Random::new(3);
+    let made = |table: &Table| (file(table), busy_rows(r, table, ROWS).concat());
+    let inputs: Vec<(Vec<u8>, Vec<u8>)> = good_tables(size).iter().map(made).collect();
+    for (file, journal) in &inputs {
+        let found = second::judge(file, journal);
+        assert_eq!((found.number, found.rows), (0, ROWS));
+    }
+    let ours = |k: usize| {
+        let (file, journal) = black_box(&inputs[k]);
+        black_box(face::judge(file, journal));
+    };
+    let second = |k: usize| {
+        let (file, journal) = black_box(&inputs[k]);
+        black_box(second::judge(file, journal));
+    };
+    let sides: [Work; 2] = [Box::new(ours), Box::new(second)];
+    measure_each(&format!("journal {}, rows", size.name), sides, ROWS);
+}
+
 /// Prints a line: the best turn of each side, and ours over each of the others.
-fn measure(name: &str, mut sides: [Work; 3]) {
+fn measure(name: &str, sides: [Work; 3]) {
+    measure_each(name, sides, 1);
+}
+
+/// The same of inputs that count for more than one each, also without plain C.
+fn measure_each<const SIDES: usize>(name: &str, mut sides: [Work; SIDES], each: usize) {
     let once = (0..3).map(|_| sides.each_mut().map(|side| turn(side, 1)));
-    let slowest = |t: [f64; 3]| t.into_iter().fold(0.0, f64::max);
+    let slowest = |t: [f64; SIDES]| t.into_iter().fold(0.0, f64::max);
     let times = (TURN / once.map(slowest).fold(f64::INFINITY, f64::min)).ceil() as usize;
-    let mut turns = vec![[0.0; 3]; TURNS];
+    let mut turns = vec![[0.0; SIDES]; TURNS];
     for (at, taken) in turns.iter_mut().enumerate() {
         // Each side goes first in turn.
-        for side in (0..3).map(|k| (at + k) % 3) {
+        for side in (0..SIDES).map(|k| (at + k) % SIDES) {
             taken[side] = turn(&mut sides[side], times);
         }
     }
     let best = |side: usize| turns.iter().map(|t| t[side]).fold(f64::INFINITY, f64::min);
-    let rate = |side: usize| (times * INPUTS) as f64 / best(side);
+    let rate = |side: usize| format!("{:.0}", (times * INPUTS * each) as f64 / best(side));
     let over = |side: usize| {
         let mut ratios: Vec<f64> = turns.iter().map(|t| t[side] / t[0]).collect();
         ratios.sort_by(f64::total_cmp);
         format!("{:.2} ({:.2})", best(side) / best(0), ratios[TURNS / 2])
     };
+    let (mut rates, mut overs) = (vec![rate(0)], Vec::new());
+    for side in 1..3 {
+        let there = side < SIDES;
+        let say = |of: &dyn Fn(usize) -> String| {
+            let none = || String::from("-");
+            there.then(|| of(side)).unwrap_or_else(none)
+        };
+        rates.push(say(&rate));
+        overs.push(say(&over));
+    }
     println!(
-        "{name:<58}{:>10.0}{:>10.0}{:>10.0}{:>16}{:>16}",
-        rate(0),
-        rate(1),
-        rate(2),
-        over(1),
-        over(2)
+        "{name:<58}{:>10}{:>10}{:>10}{:>16}{:>16}",
+        rates[0], rates[1], rates[2], overs[0], overs[1]
     );
 }
 
