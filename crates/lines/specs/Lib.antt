@@ -1,4 +1,3 @@
 -- The definitions: the lines that show a table run, tick by tick; all that is shown for an input. Laws about them are in proofs/.
 pub mod Lines
 pub mod Watching
-pub mod Examples
