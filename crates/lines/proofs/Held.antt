@@ -4,7 +4,6 @@ use mathlib.Core.List.{List}
 use Prim.Native.Nat.{ℕ}
 use lib.ListN.{take}
 use Rattle.table.specs.declared.Loaded.{Loaded}
-use Rattle.table.specs.Reading.{read}
 use Rattle.table.proofs.Prefix.{read-prefix}
 use Rattle.machine.specs.declared.State.{State}
 use Rattle.machine.specs.States.{openRead, opening}
