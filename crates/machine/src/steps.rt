@@ -138,9 +138,10 @@ fn waited(s: TaskState, named: bool, period: u32) -> TaskState
 fn waits(t: Table, st: State, named: u16) -> [TaskState; 16]
     ensures { λ r. ⌜ r ≡ worked t st named [] .tasks ⌝ }
 {
+    let given = t.tasks;
     let mut tasks = st.tasks;
     for i in 0..16usize {
-        tasks[i] = waited(st.tasks[i], (named >> i) % 2 == 1, t.tasks[i].t);
+        tasks[i] = waited(tasks[i], (named >> i) % 2 == 1, given[i].t);
     }
     tasks
 }
@@ -213,12 +214,14 @@ fn ends(s: TaskState, remaining: &[u32; 256], i: usize) -> bool
 }
 
 // The set of tasks that step 5 makes idle.
-pub(crate) fn finished_set(st: State) -> u16
+pub(crate) fn finished_set(st: State, remaining: &[u32; 256]) -> u16
+    requires { ⌜ st .remaining ≡ now remaining ⌝ }
     ensures { λ r. ⌜ r ≡ finished st ⌝ }
 {
+    let states = st.tasks;
     let mut set: u16 = 0;
     for i in 0..16usize {
-        if ends(st.tasks[i], &st.remaining, i) {
+        if ends(states[i], remaining, i) {
             let member = power(i);
             set += member;
         }
@@ -244,7 +247,7 @@ fn ended_tasks(st: State, done: u16) -> [TaskState; 16]
     let mut tasks = st.tasks;
     for i in 0..16usize {
         if (done >> i) % 2 == 1 {
-            tasks[i] = rested(st.tasks[i]);
+            tasks[i] = rested(tasks[i]);
         }
     }
     tasks
@@ -280,8 +283,10 @@ fn is_missed(s: TaskState, clock: u32) -> bool
 pub(crate) fn first_missed(st: State) -> u8
     ensures { λ r. ⌜ r ≡ lowest 16 16 (missed st) ⌝ }
 {
+    let clock = st.clock;
+    let states = st.tasks;
     for i in 0..16u8 {
-        if is_missed(st.tasks[i as usize], st.clock) {
+        if is_missed(states[i as usize], clock) {
             return i;
         }
     }

@@ -110,7 +110,7 @@ pub fn advance_from(t: Table, st: State, named: u16, chosen: Chosen) -> Ticked
     ensures { λ r. ⌜ r ≡ advanceTo (listed chosen) (worked t st named (listed chosen)) ⌝ }
 {
     let after = steps::work(t, st, named, chosen);
-    let done = steps::finished_set(after);
+    let done = steps::finished_set(after, &after.remaining);
     let rest = steps::end_jobs(after, done);
     judge(chosen, done, rest)
 }
@@ -165,8 +165,9 @@ pub fn first_early(named: u16, n: u8, st: State) -> u8
     ensures { λ r. ⌜ r ≡ lowest 16 n (λ i. bit named i && ltb 0 (wait st i)) ⌝ }
 {
     let used = entries(n);
+    let states = st.tasks;
     for i in 0..used {
-        if is_early(named, st.tasks[i as usize], i) {
+        if is_early(named, states[i as usize], i) {
             return i;
         }
     }
@@ -178,7 +179,7 @@ pub(crate) fn tick_on(t: Table, st: State, named: u16) -> Ticked
     requires { ⌜ GoodTable t ⌝ }
     ensures { λ r. ⌜ r ≡ tickOn ownChoice t st named ⌝ }
 {
-    if !fitting::fits_state(t, st) {
+    if !fitting::fits_state(t, st, &t.costs, &st.remaining) {
         return refuse(st, 30, 0, 255);
     }
     let p = st.phase;
@@ -194,5 +195,6 @@ pub(crate) fn tick_on(t: Table, st: State, named: u16) -> Ticked
         return refuse(st, 33, 0, early);
     }
     let begun = steps::release(t, st, named);
-    advance_from(t, begun, named, choosing::choose(t, begun))
+    let chosen = choosing::choose(t, begun, &begun.remaining);
+    advance_from(t, begun, named, chosen)
 }

@@ -1,39 +1,40 @@
-use mathlib.Core.Path.{_≡_, ap}
+use mathlib.Core.Path.{_≡_, ap, _∙_}
+use mathlib.Core.List.{List}
 use Prim.Native.Nat.{ℕ, _-_, _≤_}
 use native.Mathlib.Omega.{arith}
-use lib.ListN.{length}
+use lib.ListN.{length, getD}
 use borrow.Author.Needs.{needs}
 use Rattle.graph.specs.Words.{pick, bit}
-use Rattle.table.specs.declared.Table.{Table}
+use Rattle.table.specs.declared.Task.{Task}
 use Rattle.table.specs.Memory.{noTask, task, T}
 use Rattle.machine.specs.declared.Activity.{Activity}
-use Rattle.machine.specs.declared.State.{State}
 use Rattle.machine.specs.declared.TaskState.{TaskState}
-use Rattle.machine.specs.States.{idle, activity, wait}
+use Rattle.machine.specs.States.{idle, activity, waitOf, wait}
 use Rattle.machine.specs.Steps.{withWait, worked}
 use Rattle.machine.proofs.Filling.{length-mapped, Filled, filled-none, filled-set, filled-all}
+use Rattle.machine.proofs.Rows.{doing}
 use Rattle.machine.proofs.steps.waits.Statement.{statement}
 use Rattle.machine.proofs.steps.waits.Tie as tie
 
 -- task i after step 4
-abbrev waitIn : Table → State → ℕ → ℕ → TaskState
-waitIn t st named i = record { activity = withWait (pick (bit named i) (T t i - 1) (wait st i - 1)) (activity st i) }
+abbrev waitIn : List Task → List TaskState → ℕ → ℕ → TaskState
+waitIn given states named i = record { activity = withWait (pick (bit named i) (getD given i noTask .t - 1) (waitOf (doing states i) - 1)) (doing states i) }
 
 abbrev Inv-loop : tie.InvT-loop
-Inv-loop named t st tasks₀ i₀ tasks i = (i ≤ 16) × Filled 16 idle (waitIn t st named) (st .tasks) i tasks
+Inv-loop named given tasks₀ i₀ tasks i = (i ≤ 16) × Filled 16 idle (waitIn given tasks₀ named) tasks₀ i tasks
 
 abbrev μ-loop : tie.MeasureT-loop
-μ-loop named t st tasks₀ i₀ tasks i = 16 - i
+μ-loop named given tasks₀ i₀ tasks i = 16 - i
 
 loop-holds : tie.Need-loop-holds Inv-loop μ-loop
 loop-holds c =
-    let h : length (c .before .args .t2 .tasks) ≡ 16 = search (needs, length-mapped) in (search needs, filled-none 16 idle _ (c .before .args .t2 .tasks) h)
+    let h : length (c .before .before .args .st .tasks) ≡ 16 = search (needs, length-mapped) in (search needs, filled-none 16 idle _ (c .before .before .args .st .tasks) h)
 
 mul-waited : tie.Need-mul-waited Inv-loop μ-loop
 mul-waited c = search needs
 
-element-copy-out-waited : tie.Need-element-copy-out-waited Inv-loop μ-loop
-element-copy-out-waited c = search needs
+array-copy-out-waited : tie.Need-array-copy-out-waited Inv-loop μ-loop
+array-copy-out-waited c = search needs
 
 cast-waited : tie.Need-cast-waited Inv-loop μ-loop
 cast-waited c = search needs
@@ -44,8 +45,8 @@ shr-waited c = search needs
 mul-waited-2 : tie.Need-mul-waited-2 Inv-loop μ-loop
 mul-waited-2 c = search needs
 
-element-copy-out-waited-2 : tie.Need-element-copy-out-waited-2 Inv-loop μ-loop
-element-copy-out-waited-2 c = search needs
+element-copy-out-waited : tie.Need-element-copy-out-waited Inv-loop μ-loop
+element-copy-out-waited c = search needs
 
 waited-requires : tie.Need-waited-requires Inv-loop μ-loop
 waited-requires c κs = search needs
@@ -63,17 +64,19 @@ loop-less : tie.Need-loop-less Inv-loop μ-loop
 loop-less c = search needs
 
 loop-again : tie.Need-loop-again Inv-loop μ-loop
-unfolding bit T task noTask wait activity idle
+unfolding bit noTask idle
 loop-again c =
     let l = c .before .before .before .loop in
-    let a = c .before .before .before .before .before .args in (
+    let a = c .before .before .before .before .before .before .args in
+    let same = l .inv .1 .rest (l .i) (omega arith) in
+    let f : TaskState → Activity = λ x. withWait (pick (bit (a .named) (l .i)) (getD (a .t .tasks) (l .i) noTask .t - 1) (waitOf (x .activity) - 1)) (x .activity) in (
       search needs,
-      filled-set 16 idle (waitIn (a .t1) (a .t2) (a .named)) (a .t2 .tasks) (l .i) (l .tasks) (l .inv .1) (c .waited .result) (omega arith)
-          (ap (λ (b : Activity). record { activity = b }) (c .waited .ensures)),
+      filled-set 16 idle (waitIn (a .t .tasks) (a .st .tasks) (a .named)) (a .st .tasks) (l .i) (l .tasks) (l .inv .1) (c .waited .result) (omega arith)
+          (ap (λ (b : Activity). record { activity = b }) (c .waited .ensures ∙ ap f same)),
     )
 
 returns : tie.Need-returns Inv-loop μ-loop
-unfolding worked
+unfolding worked T task wait activity
 returns c = filled-all 16 idle _ _ _ _ (c .before .loop .inv .1) (omega arith)
 
 pub waits-spec : {M : Type 1} → statement M
@@ -84,11 +87,11 @@ waits-spec =
     μ-loop
     loop-holds
     mul-waited
-    element-copy-out-waited
+    array-copy-out-waited
     cast-waited
     shr-waited
     mul-waited-2
-    element-copy-out-waited-2
+    element-copy-out-waited
     waited-requires
     mul-tasks
     array-set-from-tasks

@@ -9,16 +9,17 @@ use borrow.Author.Count.{below-none, below-more}
 use Rattle.graph.specs.Words.{bit}
 use Rattle.graph.proofs.Facts.{lowest-is, lowest-none}
 use Rattle.graph.proofs.Bits.{bit-past}
-use Rattle.machine.specs.States.{idle, activity, wait}
+use Rattle.machine.specs.States.{idle, activity, waitOf, wait}
 use Rattle.machine.proofs.Lowest.{None}
+use Rattle.machine.proofs.Rows.{doing}
 use Rattle.machine.proofs.ticking.first_early.Statement.{statement}
 use Rattle.machine.proofs.ticking.first_early.Tie as tie
 
 abbrev Inv-loop : tie.InvT-loop
-Inv-loop named n st used i₀ i = (i ≤ used) × None i (λ k. bit named k && ltb 0 (wait st k))
+Inv-loop named n used states i₀ i = (i ≤ used) × None i (λ k. bit named k && ltb 0 (waitOf (doing states k)))
 
 abbrev μ-loop : tie.MeasureT-loop
-μ-loop named n st used i₀ i = used - i
+μ-loop named n used states i₀ i = used - i
 
 entries-requires : tie.Need-entries-requires Inv-loop μ-loop
 entries-requires c κs = search needs
@@ -32,8 +33,8 @@ cast-is-early c = search needs
 mul-is-early : tie.Need-mul-is-early Inv-loop μ-loop
 mul-is-early c = search needs
 
-element-copy-out-is-early : tie.Need-element-copy-out-is-early Inv-loop μ-loop
-element-copy-out-is-early c = search needs
+array-copy-out-is-early : tie.Need-array-copy-out-is-early Inv-loop μ-loop
+array-copy-out-is-early c = search needs
 
 is-early-requires : tie.Need-is-early-requires Inv-loop μ-loop
 is-early-requires c κs = search needs
@@ -55,11 +56,12 @@ unfolding wait activity idle
 loop-again c = (omega arith, below-more _ _ (c .before .before .before .before .loop .inv .1) (sym (c .before .is-early .ensures) ∙ c .if1 .left))
 
 returns-2 : tie.Need-returns-2 Inv-loop μ-loop
+unfolding wait activity
 returns-2 c =
-    let a = c .before .before .before .args in
+    let a = c .before .before .before .before .args in
     sym (lowest-none 16 _ _ (λ j b. elim (decLt j 16) [
       | yes h ↦ c .before .loop .inv .1 j (omega arith)
-      | no h ↦ ap (λ (x : Bool). x && ltb 0 (wait (a .t3) j)) (bit-past (a .named) 16 j (omega arith) (omega arith))
+      | no h ↦ ap (λ (x : Bool). x && ltb 0 (wait (a .st) j)) (bit-past (a .named) 16 j (omega arith) (omega arith))
     ]))
 
 pub first-early-spec : {M : Type 1} → statement M
@@ -72,7 +74,7 @@ first-early-spec =
     loop-holds
     cast-is-early
     mul-is-early
-    element-copy-out-is-early
+    array-copy-out-is-early
     is-early-requires
     returns
     add-i

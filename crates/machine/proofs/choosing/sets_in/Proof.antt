@@ -1,27 +1,30 @@
-use mathlib.Core.Path.{_≡_, refl, _∙_}
+use mathlib.Core.Path.{refl, _∙_}
 use Prim.Native.Nat.{ℕ, _+_, _*_, _-_, _≤_}
 use native.Mathlib.Omega.{arith}
+use denote.Ref.{now}
 use borrow.Author.Needs.{needs}
-use Rattle.graph.specs.Words.{setOf}
+use mathlib.Core.List.{List}
+use Rattle.graph.specs.Words.{row, setOf}
 use Rattle.table.specs.declared.Table.{Table}
 use Rattle.table.specs.Memory.{noTask, task, vertices, succ}
 use Rattle.machine.specs.declared.State.{State}
 use Rattle.machine.specs.States.{idle, activity}
 use Rattle.machine.specs.Steps.{available, availableSets}
 use Rattle.machine.proofs.Filling.{Filled, filled-none, filled-set, filled-all}
+use Rattle.machine.proofs.Rows.{tableWith, stateWith, sets-same}
 use Rattle.machine.proofs.Ready.{available-set}
-use Rattle.machine.proofs.choosing.available_sets.Statement.{statement}
-use Rattle.machine.proofs.choosing.available_sets.Tie as tie
+use Rattle.machine.proofs.choosing.sets_in.Statement.{statement}
+use Rattle.machine.proofs.choosing.sets_in.Tie as tie
 
 -- task i's set
 abbrev oneSet : Table → State → ℕ → ℕ
 oneSet t st i = setOf 16 (λ u. available t st (16 * i + u))
 
 abbrev Inv-loop : tie.InvT-loop
-Inv-loop t st sets₀ i₀ sets i = (i ≤ 16) × Filled 16 0 (oneSet t st) sets₀ i sets
+Inv-loop remaining tasks states sets₀ i₀ sets i = (i ≤ 16) × Filled 16 0 (oneSet (tableWith tasks) (stateWith 0 states remaining)) sets₀ i sets
 
 abbrev μ-loop : tie.MeasureT-loop
-μ-loop t st sets₀ i₀ sets i = 16 - i
+μ-loop remaining tasks states sets₀ i₀ sets i = 16 - i
 
 loop-holds : tie.Need-loop-holds Inv-loop μ-loop
 loop-holds c = (search needs, filled-none 16 0 _ _ refl)
@@ -29,14 +32,14 @@ loop-holds c = (search needs, filled-none 16 0 _ _ refl)
 mul-s : tie.Need-mul-s Inv-loop μ-loop
 mul-s c = search needs
 
-element-copy-out-s : tie.Need-element-copy-out-s Inv-loop μ-loop
-element-copy-out-s c = search needs
+array-copy-out-s : tie.Need-array-copy-out-s Inv-loop μ-loop
+array-copy-out-s c = search needs
 
 mul-x : tie.Need-mul-x Inv-loop μ-loop
 mul-x c = search needs
 
-element-copy-out-x : tie.Need-element-copy-out-x Inv-loop μ-loop
-element-copy-out-x c = search needs
+array-copy-out-x : tie.Need-array-copy-out-x Inv-loop μ-loop
+array-copy-out-x c = search needs
 
 cast-v : tie.Need-cast-v Inv-loop μ-loop
 cast-v c = search needs
@@ -59,29 +62,36 @@ loop-less c = search needs
 loop-again : tie.Need-loop-again Inv-loop μ-loop
 unfolding activity idle vertices succ task noTask
 loop-again c =
-    let s = c .before .before .before .before .before .before .before .before .before in
-    let l = c .before .before .before .before .before .before .before .before .loop in
+    let a = c .before .before .before .before .before .before .before .before .before .args in
+    let t = tableWith (a .t .tasks) in
+    let st = stateWith 0 (a .st .tasks) (now (a .remaining)) in
+    let l = c .before .before .before .before .before .before .loop in
     let e = c .available-in .ensures in (
       omega arith,
-      filled-set 16 0 (oneSet (s .args .t1) (s .args .t2)) _ (l .i) (l .sets) (l .inv .1) (c .available-in .result) (omega arith)
-          (e .0 ∙ available-set (s .args .t1) (l .i) (e .1) (s .args .t2)),
+      filled-set 16 0 (oneSet t st) _ (l .i) (l .sets) (l .inv .1) (c .available-in .result) (omega arith)
+          (e .0 ∙ available-set t (l .i) (e .1) st),
     )
 
-returns : tie.Need-returns Inv-loop μ-loop
+filled : (t : Table) (st : State) {l : List ℕ} → l ≡ row 16 (oneSet t st) → l ≡ availableSets t st
 unfolding availableSets
-returns c = filled-all 16 0 _ _ _ _ (c .before .loop .inv .1) (omega arith)
+filled t st e = e
 
-pub available-sets-spec : {M : Type 1} → statement M
-available-sets-spec =
+returns : tie.Need-returns Inv-loop μ-loop
+returns c =
+    let s = c .before .before .before .before in
+    filled _ _ (filled-all 16 0 _ _ _ _ (c .before .loop .inv .1) (omega arith)) ∙ sets-same (s .args .t) (s .args .st) _ (s .pre)
+
+pub sets-in-spec : {M : Type 1} → statement M
+sets-in-spec =
     tie.close
     (tie.spec
     Inv-loop
     μ-loop
     loop-holds
     mul-s
-    element-copy-out-s
+    array-copy-out-s
     mul-x
-    element-copy-out-x
+    array-copy-out-x
     cast-v
     available-in-requires
     mul-sets
