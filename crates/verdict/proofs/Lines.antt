@@ -1,5 +1,5 @@
 -- The report's parts: the bounds that keep the places small, the verdict's words by its number, a task's line by its figures.
-use mathlib.Core.Path.{_≡_}
+use mathlib.Core.Path.{_≡_, refl}
 use mathlib.Core.List.{_++_, append-assoc}
 use Prim.Native.Nat.{ℕ, suc, _≤_}
 use native.Mathlib.Omega.{arith}
@@ -14,8 +14,10 @@ use Rattle.text.proofs.Decimal.{decimal-length}
 use Rattle.table.specs.declared.Table.{Table}
 use Rattle.table.specs.Good.{GoodTable}
 use Rattle.verdict.specs.declared.Figures.{Figures}
+use Rattle.verdict.specs.declared.Measures.{Measures}
 use Rattle.verdict.specs.Verdicts.{figuresOn}
-use Rattle.verdict.specs.Report.{taskLine}
+use Rattle.verdict.specs.Measured.{Holds}
+use Rattle.verdict.specs.Report.{headLine, taskLine}
 use Rattle.verdict.proofs.Length.{task-most}
 
 -- ---- bounds
@@ -33,6 +35,11 @@ says-accept n e = rw (eq-eqb n 0 e)
 
 pub says-refuse : (n : ℕ) → (n ≡ 0 → ⊥) → text "refuse " ++ decimal n ≡ pick (eqb n 0) (text "accept") (text "refuse " ++ decimal n)
 says-refuse n e = rw (ne-eqb n 0 e)
+
+-- ---- a table's first line, by its measures
+pub head-is : (t : Table) (x : Measures) → Holds t x → text "processors " ++ decimal (x .m) ++ text " tasks " ++ decimal (x .n) ++ newline ≡ headLine t
+unfolding headLine
+head-is t x h = rw (h .m-is, h .n-is) refl
 
 -- ---- a task's line, by its figures
 pub line-is : (t : Table) (k : ℕ) (f : Figures) → f ≡ figuresOn t k

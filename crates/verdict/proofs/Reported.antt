@@ -3,7 +3,7 @@ use mathlib.Core.Path.{_≡_, ap, ap₂, _∙_}
 use mathlib.Core.List.{List}
 use Prim.Native.Nat.{ℕ, _-_, _≤_, _<_}
 use native.Mathlib.Omega.{arith}
-use lib.ListN.{length, take, replicate, length-append, length-replicate}
+use lib.ListN.{length, take, drop, replicate, length-append, length-replicate}
 use lib.Seq.{take-append-seam}
 use borrow.Author.Tests.{le-leb, lt-leb}
 use Rattle.text.specs.Laid.{laid, Put}
@@ -16,7 +16,7 @@ use Rattle.table.proofs.Prefix.{read-prefix}
 use Rattle.verdict.specs.declared.Report.{Report}
 use Rattle.verdict.specs.Report.{badLine, reportOn, reportRead, report, reported, reportInto}
 use Rattle.verdict.proofs.Length.{report-most}
-use Rattle.text.proofs.Putting.{put-same, zeros-behind}
+use Rattle.text.proofs.Putting.{put-same, put-long, zeros-behind}
 use Rattle.verdict.proofs.Judged.{good-read}
 
 -- ---- on what reading gave
@@ -53,10 +53,19 @@ module _ (s : List ℕ) (r : Report) (h : r ≡ reported s) where
   pub report-within : r .len ≤ 1312
   report-within = omega (arith, report-len, report-most s)
 
+-- ---- a report in a buffer that holds every one
+module _ (s buf after : List ℕ) (len : ℕ) (long : length buf ≡ 1312) (p : Put buf 0 (report s) after len) where
+  pub put-len : len ≡ length (report s)
+  put-len = omega (arith, p .behind)
+
+  pub put-within : len ≤ length after
+  put-within = omega (arith, put-len, put-long p, report-most s)
+
   -- its first bytes are the text
-  pub report-text : take (r .len) (r .bytes) ≡ report s
-  unfolding reported
-  report-text = rw h (take-append-seam (report s) (replicate (2048 - length (report s)) 0))
+  pub put-text : take len after ≡ report s
+  put-text =
+      ap₂ (λ (n : ℕ) (l : List ℕ). take n l) put-len (p .holds ∙ laid-front buf (report s) (omega (arith, report-most s)))
+      ∙ take-append-seam (report s) (drop (length (report s)) buf)
 
 -- ---- a caller's buffer
 pub into-short : (s buf : List ℕ) → length buf < length (report s) → buf ≡ reportInto s buf
