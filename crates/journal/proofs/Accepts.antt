@@ -31,7 +31,7 @@ use Rattle.journal.specs.declared.Ruling.{Ruling}
 use Rattle.journal.specs.Rows.{isStopped}
 use Rattle.journal.specs.Judging.{start, ruling, judgeOn, unread, judgeRead, judge}
 use Rattle.journal.specs.Runs.{Tick, LegalRun, LegalFrom, lastAnswer, lastMissed, writing}
-use Rattle.journal.specs.Accepting.{accepted, EveryRun, NothingElse, OneRun, OwnRuns}
+use Rattle.journal.specs.Accepting.{accepted, EveryRun, NothingElse, Exactly, OneRun, OwnRuns}
 use Rattle.journal.proofs.Judged.{run-judged, judged-run}
 use Rattle.journal.proofs.Clocks.{zeros-alike, run-too}
 use Rattle.journal.proofs.Own.{own-run}
@@ -123,6 +123,17 @@ nothing-else file s bytes e clock small =
     let n : opening file clock .reply .number ≡ 0 = ap (λ (z : Opened). z .reply .number) (opening-read file well clock) in
     let f : LegalFrom file clock (r .0) = record { opened = n; ticks = subst (λ (z : State). LegalRun file z (r .0)) (sym o) l } in
     (r .0, f, r .2, ap (judge file) (sym (r .2)) ∙ every-run file clock small (r .0) f)
+
+pub exactly : Exactly
+unfolding accepted
+exactly file s bytes clock small n = (
+  (λ a.
+      let r = nothing-else file s bytes (a .0) clock small in
+      (r .0, r .1, sym (ap (λ (z : Ruling). z .rows) (r .3)) ∙ a .1, r .2)),
+  (λ r.
+      let e = ap (judge file) (sym (r .3)) ∙ every-run file clock small (r .0) (r .1) in
+      (ap (λ (z : Ruling). z .number) e, ap (λ (z : Ruling). z .rows) e ∙ r .2)),
+)
 
 pub one-run : OneRun
 one-run file c d run other l m e = O.one-run file run other _ _ (l .ticks) (m .ticks) e

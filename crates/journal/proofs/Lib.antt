@@ -21,3 +21,10 @@ pub mod Once
 pub mod Accepts
 -- The examples.
 pub mod Computed
+-- The tests of a row in code.
+pub mod RowTests
+pub mod SetTests
+pub mod RowFaults
+pub mod Entries
+-- Each public contract allows one result.
+pub mod Unique

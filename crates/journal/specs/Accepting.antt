@@ -1,6 +1,7 @@
 -- WHAT THE JUDGE ACCEPTS: document 02, M-100. "It must accept every legal run so written and nothing else." Proved in
 -- proofs/Accepts.antt.
 use mathlib.Core.Path.{_≡_}
+use mathlib.Core.Logic.{_↔_}
 use mathlib.Core.List.{List}
 use Prim.Native.Nat.{ℕ, _^_, _<_}
 use lib.ListN.{length, getD}
@@ -27,7 +28,13 @@ NothingElse =
     → (clock : ℕ) → clock < 2 ^ 32
     → (run : List Tick) × LegalFrom file clock run × (writing run ≡ s) × (judge file s ≡ accepted file clock run)
 
--- and of one run only, but for the order within a tick
+-- Both in one: it is accepted with N rows exactly if it is the writing of a legal run of N ticks.
+abbrev pub Exactly : Type 0
+Exactly =
+    (file s : List ℕ) → ((k : ℕ) → getD s k 0 < 2 ^ 8) → (clock : ℕ) → clock < 2 ^ 32 → (N : ℕ)
+    → ((judge file s .number ≡ 0) × (judge file s .rows ≡ N)) ↔ ((run : List Tick) × LegalFrom file clock run × (length run ≡ N) × (writing run ≡ s))
+
+-- It is the writing of one such run only, but for the order within a tick
 abbrev pub OneRun : Type 0
 OneRun =
     (file : List ℕ) (c d : ℕ) (run other : List Tick) → LegalFrom file c run → LegalFrom file d other

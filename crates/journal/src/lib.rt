@@ -1,5 +1,11 @@
 // The judge's answers. The definitions are in specs/, what they mean in proofs/.
+mod fields;
+mod lists;
+mod walk;
+
 use machine::State;
+pub use walk::judge;
+pub use walk::judge_piece;
 
 // The ruling on a journal: number 0, the number of rows, and whether the last one missed; or the refusal's number and row, for
 // reading's numbers the place and row 0.

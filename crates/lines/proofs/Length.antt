@@ -1,8 +1,8 @@
--- Every line fits its buffer: at most 86 bytes for opening, 206 for a tick.
-use mathlib.Core.Path.{_≡_, refl}
+-- Every line fits its buffer: at most 86 bytes for opening, 204 for a tick.
+use mathlib.Core.Path.{_≡_}
 use mathlib.Core.Bool.{Bool, true, false}
 use mathlib.Core.List.{List, [], _∷_, _++_}
-use Prim.Native.Nat.{ℕ, zero, suc, _+_, _*_, _^_, _≤_, _<_}
+use Prim.Native.Nat.{ℕ, _*_, _^_, _≤_, _<_}
 use native.Mathlib.Omega.{arith}
 use native.Mathlib.Nat.{mul-suc}
 use lib.Dec.{eqb}
@@ -64,48 +64,59 @@ numbers-most : (set : ℕ) → length (numbersIn set) ≤ 48
 unfolding numbersIn inOrder
 numbers-most set = dash-most (inOrder 16 (numberIn set)) 48 (joined-most 16 0 3 (numberIn set) (λ j b. number-most set j (omega arith))) (omega arith)
 
-vertex-most : (p : Pair) → length (vertexText p) ≤ 42
+-- what the types of a tick's answer say of its numbers
+unfoldable pub SmallPairs : List Pair → Type 0
+SmallPairs [] = Unit {0}
+SmallPairs (p ∷ l) = (p .task < 2 ^ 8) × (p .vertex < 2 ^ 8) × SmallPairs l
+
+pub record TypedAnswer (a : Answer) : Type 0 where
+  pub number-byte : a .reply .number < 2 ^ 8
+  pub task-byte : a .reply .task < 2 ^ 8
+  pub eight : length (a .ran) ≡ 8
+  pub small : SmallPairs (a .ran)
+
+vertex-most : (p : Pair) → p .task < 2 ^ 8 → p .vertex < 2 ^ 8 → length (vertexText p) ≤ 8
 unfolding vertexText text
-vertex-most p = go (eqb (p .task) 255)
+vertex-most p i h = go (eqb (p .task) 255)
   where
-    go : (b : Bool) → length (pick b [] (text " " ++ decimal (p .task) ++ text "." ++ decimal (p .vertex))) ≤ 42
+    go : (b : Bool) → length (pick b [] (text " " ++ decimal (p .task) ++ text "." ++ decimal (p .vertex))) ≤ 8
     go true = omega arith
-    go false = simp length-append (omega (arith, decimal-length (p .task) .1, decimal-length (p .vertex) .1))
+    go false = simp length-append (omega (arith, decimal-short 2 (p .task) (omega arith), decimal-short 2 (p .vertex) (omega arith)))
 
-vertices-most : (l : List Pair) → length (verticesText l) ≤ 42 * length l
-unfolding verticesText
-vertices-most [] = omega arith
-vertices-most (p ∷ l) = simp length-append (omega (arith, vertex-most p, vertices-most l, mul-suc 42 (length l)))
+vertices-most : (l : List Pair) → SmallPairs l → length (verticesText l) ≤ 8 * length l
+unfolding verticesText SmallPairs
+vertices-most [] s = omega arith
+vertices-most (p ∷ l) s = simp length-append (omega (arith, vertex-most p (s .0) (s .1), vertices-most l (s .2), mul-suc 8 (length l)))
 
-module _ (a : Answer) (eight : length (a .ran) ≤ 8) where
-  went-most : length (wentText a) ≤ 395
+module _ (a : Answer) (typed : TypedAnswer a) where
+  went-most : length (wentText a) ≤ 123
   unfolding wentText text
   went-most =
-      let r = dash-most (verticesText (a .ran)) 336 (omega (arith, vertices-most (a .ran))) (omega arith) in
+      let r = dash-most (verticesText (a .ran)) 64 (omega (arith, vertices-most (a .ran) (typed .small), typed .eight)) (omega arith) in
       simp length-append (omega (arith, r, numbers-most (a .finished)))
 
-  miss-most : length (missText a) ≤ 421
+  miss-most : length (missText a) ≤ 132
   unfolding missText text
-  miss-most = simp length-append (omega (arith, went-most, decimal-length (a .reply .task) .1))
+  miss-most = simp length-append (omega (arith, went-most, decimal-short 2 (a .reply .task) (omega (arith, typed .task-byte))))
 
-refusal-most : (r : Reply) → length (refusalText r) ≤ 421
+refusal-most : (r : Reply) → r .number < 2 ^ 8 → r .task < 2 ^ 8 → length (refusalText r) ≤ 20
 unfolding refusalText text
-refusal-most r = go (eqb (r .task) 255)
+refusal-most r i h = go (eqb (r .task) 255)
   where
-    go : (b : Bool) → length (text " refuse " ++ decimal (r .number) ++ pick b [] (text " task " ++ decimal (r .task))) ≤ 421
-    go true = simp length-append (omega (arith, decimal-length (r .number) .1))
-    go false = simp length-append (omega (arith, decimal-length (r .number) .1, decimal-length (r .task) .1))
+    go : (b : Bool) → length (text " refuse " ++ decimal (r .number) ++ pick b [] (text " task " ++ decimal (r .task))) ≤ 20
+    go true = simp length-append (omega (arith, decimal-short 2 (r .number) (omega arith)))
+    go false = simp length-append (omega (arith, decimal-short 2 (r .number) (omega arith), decimal-short 2 (r .task) (omega arith)))
 
-answer-most : (a : Answer) → length (a .ran) ≤ 8 → length (answerText a) ≤ 421
+answer-most : (a : Answer) → TypedAnswer a → length (answerText a) ≤ 132
 unfolding answerText
-answer-most a h = go (eqb (a .reply .number) 0) (eqb (a .reply .number) 34)
+answer-most a t = go (eqb (a .reply .number) 0) (eqb (a .reply .number) 34)
   where
-    go : (b c : Bool) → length (pick b (wentText a) (pick c (missText a) (refusalText (a .reply)))) ≤ 421
-    go true c = omega (arith, went-most a h)
-    go false true = miss-most a h
-    go false false = refusal-most (a .reply)
+    go : (b c : Bool) → length (pick b (wentText a) (pick c (missText a) (refusalText (a .reply)))) ≤ 132
+    go true c = omega (arith, went-most a t)
+    go false true = miss-most a t
+    go false false = omega (arith, refusal-most (a .reply) (t .number-byte) (t .task-byte))
 
 -- A TICK'S LINE'S LENGTH
-pub tick-most : (clock named : ℕ) (a : Answer) → length (a .ran) ≤ 8 → length (tickLine clock named a) ≤ 503
+pub tick-most : (clock named : ℕ) (a : Answer) → clock < 2 ^ 32 → TypedAnswer a → length (tickLine clock named a) ≤ 204
 unfolding tickLine text newline
-tick-most clock named a h = simp length-append (omega (arith, decimal-length clock .1, numbers-most named, answer-most a h))
+tick-most clock named a h t = simp length-append (omega (arith, decimal-short 9 clock (omega arith), numbers-most named, answer-most a t))

@@ -1,7 +1,7 @@
 -- A line from its parts: what reading gave, zeros behind the text.
-use mathlib.Core.Path.{_≡_, sym, ap, ap₂, _∙_}
-use mathlib.Core.List.{List, _++_}
-use Prim.Native.Nat.{ℕ, _-_, _≤_}
+use mathlib.Core.Path.{_≡_, ap, ap₂, _∙_}
+use mathlib.Core.List.{List}
+use Prim.Native.Nat.{ℕ, _-_, _^_, _≤_, _<_}
 use native.Mathlib.Omega.{arith}
 use lib.ListN.{length, take, replicate, length-append, length-replicate}
 use lib.Seq.{take-append-seam}
@@ -14,7 +14,7 @@ use Rattle.table.proofs.PartLaws.{told-other, not-read}
 use Rattle.machine.specs.declared.Answer.{Answer}
 use Rattle.lines.specs.declared.Line.{Line}
 use Rattle.lines.specs.Lines.{refuseLine, openedLine, openLineRead, openLine, tickLine, lineOf}
-use Rattle.lines.proofs.Length.{open-most, tick-most}
+use Rattle.lines.proofs.Length.{TypedAnswer, open-most, tick-most}
 
 -- ---- on what reading gave
 module _ (s : List ℕ) (clock : ℕ) (l : Loaded) (h : l ≡ read s) where
@@ -38,9 +38,9 @@ line-put l after next h p =
 pub open-put : (s : List ℕ) (clock : ℕ) (after : List ℕ) (next : ℕ) → Put (replicate 512 0) 0 (openLine s clock) after next → (record { bytes = after; len = next }) ≡ lineOf (openLine s clock)
 open-put s clock after next = line-put (openLine s clock) after next (omega (arith, open-most s clock))
 
-pub tick-put : (clock named : ℕ) (a : Answer) (after : List ℕ) (next : ℕ) → length (a .ran) ≡ 8 → Put (replicate 512 0) 0 (tickLine clock named a) after next
+pub tick-put : (clock named : ℕ) (a : Answer) (after : List ℕ) (next : ℕ) → clock < 2 ^ 32 → TypedAnswer a → Put (replicate 512 0) 0 (tickLine clock named a) after next
     → (record { bytes = after; len = next }) ≡ lineOf (tickLine clock named a)
-tick-put clock named a after next h = line-put (tickLine clock named a) after next (omega (arith, tick-most clock named a (omega arith)))
+tick-put clock named a after next h t = line-put (tickLine clock named a) after next (omega (arith, tick-most clock named a h t))
 
 -- ---- a line in memory: its first bytes are the text
 module _ (l : List ℕ) (most : length l ≤ 512) (r : Line) (h : r ≡ lineOf l) where

@@ -1,11 +1,11 @@
 -- Parts of a line: what a test leaves of a text, a dash for nothing, one vertex behind another.
 use mathlib.Core.Path.{_≡_, refl, sym, ap, _∙_}
 use mathlib.Core.List.{List, [], _∷_, _++_, append-nil, append-assoc}
-use Prim.Native.Nat.{ℕ, zero, suc, _+_, _≤_, _<_}
+use Prim.Native.Nat.{ℕ, _+_, _≤_, _<_}
 use native.Mathlib.Omega.{arith}
 use native.Mathlib.Numerals.{add-one}
 use lib.Dec.{eqb}
-use lib.ListN.{length, getD, take, length-append}
+use lib.ListN.{length, getD, take}
 use lib.Seq.{take-suc, take-all}
 use borrow.Author.Tests.{eq-eqb, ne-eqb}
 use Rattle.graph.specs.Words.{pick}
@@ -66,10 +66,15 @@ pub put-dash : {buf l mid after : List ℕ} {at p next : ℕ} → Put buf at l m
 put-dash {l = l} {at = at} {p = p} a b = put-same (put-then a b) (dashed l at p (a .behind))
 
 -- ---- vertex after vertex
+-- those of one list, then those of another
+both-lists : (l m : List Pair) → verticesText (l ++ m) ≡ verticesText l ++ verticesText m
+unfolding verticesText
+both-lists [] m = refl
+both-lists (q ∷ l) m = ap (λ (x : List ℕ). vertexText q ++ x) (both-lists l m) ∙ sym (append-assoc (vertexText q) (verticesText l) (verticesText m))
+
 after-one : (l : List Pair) (p : Pair) → verticesText l ++ vertexText p ≡ verticesText (l ++ (p ∷ []))
 unfolding verticesText
-after-one [] p = sym (append-nil (vertexText p))
-after-one (q ∷ l) p = append-assoc (vertexText q) (verticesText l) (vertexText p) ∙ ap (λ (x : List ℕ). vertexText q ++ x) (after-one l p)
+after-one l p = ap (λ (x : List ℕ). verticesText l ++ x) (sym (append-nil (vertexText p))) ∙ sym (both-lists l (p ∷ []))
 
 pub one-vertex : (l : List Pair) (j : ℕ) (d : Pair) → j < length l → verticesText (take j l) ++ vertexText (getD l j d) ≡ verticesText (take (j + 1) l)
 one-vertex l j d h =

@@ -1,7 +1,7 @@
 use mathlib.Core.List.{append-assoc}
 use Rattle.text.specs.Text.{text}
 use Rattle.verdict.specs.Report.{headLine}
-use Rattle.verdict.proofs.Lines.{put-then, put-same}
+use Rattle.text.proofs.Putting.{put-then, put-same}
 use borrow.Author.Needs.{needs}
 use Rattle.verdict.proofs.reporting.head_line.Statement.{statement}
 use Rattle.verdict.proofs.reporting.head_line.Tie as tie

@@ -2,7 +2,8 @@ use mathlib.Core.Path.{ap}
 use native.Mathlib.Omega.{arith}
 use Rattle.verdict.specs.Report.{lastLine, reportOn}
 use Rattle.verdict.proofs.Length.{head-most}
-use Rattle.verdict.proofs.Lines.{put-then, put-same, lines-most}
+use Rattle.text.proofs.Putting.{put-then, put-same}
+use Rattle.verdict.proofs.Lines.{lines-most}
 use borrow.Author.Needs.{needs}
 use Rattle.verdict.proofs.reporting.table_lines.Statement.{statement}
 use Rattle.verdict.proofs.reporting.table_lines.Tie as tie

@@ -4,7 +4,8 @@ use lib.IntN.{ℤ}
 use mir.Syntax.{w64}
 use mir.Facts.{toZ-ofZ}
 use Rattle.text.specs.Text.{text, newline, signed}
-use Rattle.verdict.proofs.Lines.{put-then, put-same, line-is}
+use Rattle.text.proofs.Putting.{put-then, put-same}
+use Rattle.verdict.proofs.Lines.{line-is}
 use borrow.Author.Needs.{needs}
 use Rattle.verdict.proofs.reporting.task_line.Statement.{statement}
 use Rattle.verdict.proofs.reporting.task_line.Tie as tie

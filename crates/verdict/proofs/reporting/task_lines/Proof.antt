@@ -5,8 +5,10 @@ use Prim.Native.Nat.{ℕ, _≤_, _-_}
 use native.Mathlib.Omega.{arith}
 use borrow.Author.Needs.{needs}
 use Rattle.graph.specs.Words.{inOrder}
-use Rattle.verdict.specs.Report.{taskLine, Put}
-use Rattle.verdict.proofs.Lines.{put-none, put-same, put-then, put-long, none-before, one-more, lines-most}
+use Rattle.text.specs.Laid.{Put}
+use Rattle.verdict.specs.Report.{taskLine}
+use Rattle.text.proofs.Putting.{put-none, put-same, put-then, put-long, none-before, one-more}
+use Rattle.verdict.proofs.Lines.{lines-most}
 use Rattle.verdict.proofs.reporting.task_lines.Statement.{statement}
 use Rattle.verdict.proofs.reporting.task_lines.Tie as tie
 

@@ -1,0 +1,79 @@
+use mathlib.Core.Path.{_≡_, refl, sym, ap₂, _∙_}
+use mathlib.Core.Bool.{true}
+use Prim.Native.Nat.{_-_, _≤_}
+use native.Mathlib.Omega.{arith}
+use borrow.Author.Needs.{needs}
+use borrow.Author.Tests.{not-true, not-false}
+use Rattle.graph.specs.Words.{all}
+use Rattle.fitness.proofs.Behind.{all-more, all-off, all-done}
+use Rattle.journal.specs.Rows.{rowTask, rowVertex, rowEnd}
+use Rattle.journal.specs.Listing.{inSet}
+use Rattle.journal.proofs.lists.are_in.Statement.{statement}
+use Rattle.journal.proofs.lists.are_in.Tie as tie
+
+abbrev Inv-loop : tie.InvT-loop
+Inv-loop sets bytes at count j₀ j = (j ≤ count) × (all j (λ k. inSet sets (rowTask bytes at k) (rowVertex bytes at k)) ≡ true)
+
+abbrev μ-loop : tie.MeasureT-loop
+μ-loop sets bytes at count j₀ j = count - j
+
+count-at-requires : tie.Need-count-at-requires Inv-loop μ-loop
+unfolding rowEnd
+count-at-requires c κs = omega arith
+
+loop-holds : tie.Need-loop-holds Inv-loop μ-loop
+unfolding all
+loop-holds c = (omega arith, refl)
+
+task-at-requires : tie.Need-task-at-requires Inv-loop μ-loop
+unfolding rowEnd
+task-at-requires c κs = omega arith
+
+vertex-at-requires : tie.Need-vertex-at-requires Inv-loop μ-loop
+unfolding rowEnd
+vertex-at-requires c κs = omega arith
+
+is-in-requires : tie.Need-is-in-requires Inv-loop μ-loop
+is-in-requires c κs = search needs
+
+returns : tie.Need-returns Inv-loop μ-loop
+returns c =
+    let l = c .before .before .before .before .before .loop in
+    let a = c .before .before .before .before .before .before .before .before .args in
+    let e = ap₂ (inSet (a .sets)) (sym (c .before .before .before .task-at .ensures .0)) (sym (c .before .before .vertex-at .ensures .0)) in
+    all-off _ _ (l .j) (omega arith) (e ∙ sym (c .before .is-in .ensures) ∙ not-true _ (c .if1 .taken))
+
+add-j : tie.Need-add-j Inv-loop μ-loop
+add-j c = search needs
+
+loop-less : tie.Need-loop-less Inv-loop μ-loop
+loop-less c = search needs
+
+loop-again : tie.Need-loop-again Inv-loop μ-loop
+loop-again c =
+    let l = c .before .before .before .before .before .loop in
+    let a = c .before .before .before .before .before .before .before .before .args in
+    let e = ap₂ (inSet (a .sets)) (sym (c .before .before .before .task-at .ensures .0)) (sym (c .before .before .vertex-at .ensures .0)) in
+    (omega arith, all-more _ _ (l .inv .1) (e ∙ sym (c .before .is-in .ensures) ∙ not-false _ (c .if1 .left)))
+
+returns-2 : tie.Need-returns-2 Inv-loop μ-loop
+returns-2 c =
+    let l = c .before .loop in
+    all-done _ _ (l .j) (omega arith) (l .inv .1)
+
+pub are-in-spec : {M : Type 1} → statement M
+are-in-spec =
+    tie.close
+    (tie.spec
+    Inv-loop
+    μ-loop
+    count-at-requires
+    loop-holds
+    task-at-requires
+    vertex-at-requires
+    is-in-requires
+    returns
+    add-j
+    loop-less
+    loop-again
+    returns-2)

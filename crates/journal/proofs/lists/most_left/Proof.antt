@@ -1,0 +1,88 @@
+use mathlib.Core.Path.{_≡_, refl, sym, ap, _∙_}
+use Prim.Native.Nat.{ℕ, _-_, _≤_, max}
+use native.Mathlib.Omega.{arith}
+use borrow.Author.Needs.{needs}
+use lib.ListN.{getD}
+use Rattle.graph.specs.Words.{largest}
+use Rattle.graph.proofs.Facts.{largest-next}
+use Rattle.journal.specs.Rows.{rowCount, rowTask, rowEnd}
+use Rattle.journal.specs.Listing.{AreVertices}
+use Rattle.journal.proofs.lists.most_left.Statement.{statement}
+use Rattle.journal.proofs.lists.most_left.Tie as tie
+
+abbrev Inv-loop : tie.InvT-loop
+Inv-loop bytes at ticks count most₀ j₀ most j = (j ≤ count) × (most ≡ largest j (λ k. getD ticks (rowTask bytes at k) 0))
+
+abbrev μ-loop : tie.MeasureT-loop
+μ-loop bytes at ticks count most₀ j₀ most j = count - j
+
+count-at-requires : tie.Need-count-at-requires Inv-loop μ-loop
+unfolding rowEnd
+count-at-requires c κs = omega arith
+
+loop-holds : tie.Need-loop-holds Inv-loop μ-loop
+unfolding largest
+loop-holds c = (omega arith, refl)
+
+task-at-requires : tie.Need-task-at-requires Inv-loop μ-loop
+unfolding rowEnd
+task-at-requires c κs = omega arith
+
+mul-larger : tie.Need-mul-larger Inv-loop μ-loop
+unfolding AreVertices
+mul-larger c =
+    let l = c .before .before .loop in
+    let v = c .before .before .before .before .before .pre .1 (l .j) (omega arith) in
+    omega (arith, v .0)
+
+array-read-larger : tie.Need-array-read-larger Inv-loop μ-loop
+unfolding AreVertices
+array-read-larger c =
+    let l = c .before .before .loop in
+    let v = c .before .before .before .before .before .pre .1 (l .j) (omega arith) in
+    omega (arith, v .0)
+
+larger-requires : tie.Need-larger-requires Inv-loop μ-loop
+larger-requires c κs = search needs
+
+add-j : tie.Need-add-j Inv-loop μ-loop
+add-j c = search needs
+
+loop-less : tie.Need-loop-less Inv-loop μ-loop
+loop-less c = search needs
+
+loop-again : tie.Need-loop-again Inv-loop μ-loop
+loop-again c =
+    let l = c .before .before .before .loop in
+    let a = c .before .before .before .before .before .before .args in
+    let f : ℕ → ℕ = λ k. getD (a .t1) (rowTask (a .bytes .now) (a .at) k) 0 in (
+      omega arith,
+      c .larger .ensures
+          ∙ ap (λ (i : ℕ). max (l .most) (getD (a .t1) i 0)) (c .before .task-at .ensures .0)
+          ∙ ap (λ (b : ℕ). max b (f (l .j))) (l .inv .1)
+          ∙ sym (largest-next (l .j) f),
+    )
+
+returns : tie.Need-returns Inv-loop μ-loop
+returns c =
+    let l = c .before .loop in
+    let a = c .before .before .before .before .args in
+    let e : l .j ≡ rowCount (a .bytes .now) (a .at) = omega arith in
+    l .inv .1 ∙ ap (λ (n : ℕ). largest n (λ k. getD (a .t1) (rowTask (a .bytes .now) (a .at) k) 0)) e
+
+pub most-left-spec : {M : Type 1} → statement M
+most-left-spec =
+    tie.close
+    (tie.spec
+    Inv-loop
+    μ-loop
+    count-at-requires
+    loop-holds
+    task-at-requires
+    mul-larger
+    array-read-larger
+    larger-requires
+    add-j
+    loop-less
+    loop-again
+    returns)

@@ -1,0 +1,16 @@
+use Rattle.graph.proofs.Bits.{one-less}
+use borrow.Author.Needs.{needs}
+use Rattle.journal.proofs.lists.taken_out.Statement.{statement}
+use Rattle.journal.proofs.lists.taken_out.Tie as tie
+
+cast-result : tie.Need-cast-result
+cast-result c = search needs
+
+shl-result : tie.Need-shl-result
+shl-result c = search needs
+
+returns : tie.Need-returns
+returns c = λ k h. one-less (c .args .set) (c .args .u) k (c .pre) h
+
+pub taken-out-spec : {M : Type 1} → statement M
+taken-out-spec = tie.close (tie.spec cast-result shl-result returns)

@@ -1,0 +1,202 @@
+// Judging row by row: document 02, M-100. The definitions are in specs/Judging.antt.
+ghost use mathlib.Core.Path.{_≡_};
+ghost use Prim.Native.Nat.{_≤_};
+ghost use lib.ListN.{length};
+ghost use Rattle.table.specs.Good.{GoodTable};
+ghost use Rattle.journal.specs.Rows.{rowEnd, isStopped, choiceFault};
+ghost use Rattle.journal.specs.Listing.{SetTested, judgePiece};
+ghost use Rattle.journal.specs.Judging.{judgeRow, judgeRows, start, ruling, unread, judge};
+use crate::Progress;
+use crate::Ruling;
+use crate::fields;
+use crate::lists;
+use machine::Phase;
+use machine::State;
+use table::Outcome;
+use table::Table;
+
+// 47: the row before left the machine stopped.
+fn is_stopped(phase: Phase) -> bool
+    ensures { λ r. ⌜ r ≡ isStopped phase ⌝ }
+{
+    match phase {
+        Phase::Running => false,
+        Phase::Stopped(_) => true,
+    }
+}
+
+// The refusals of a row's bytes and of its release set, in order; 0 if there is none.
+fn set_fault(t: Table, st: State, bytes: &[u8], at: usize) -> u8
+    requires { ⌜ GoodTable t ⌝ }
+    ensures { λ r. ⌜ SetTested t st (now (bytes .entry)) at r ⌝ }
+{
+    let phase = st.phase;
+    if is_stopped(phase) {
+        return 47;
+    }
+    if fields::is_cut(bytes, at) {
+        return 40;
+    }
+    if fields::is_unmarked(bytes, at) {
+        return 41;
+    }
+    if fields::is_bad_list(t.m, bytes, at) {
+        return 42;
+    }
+    let set = fields::set_at(bytes, at);
+    if machine::first_beyond(set, t.n) < 16 {
+        return 31;
+    }
+    if machine::first_early(set, t.n, st) < 16 {
+        return 33;
+    }
+    0
+}
+
+// The refusals of a row's choice, in order; 0 if there is none. The state is that after step 1.
+fn choice_fault(t: Table, st: State, bytes: &[u8], at: usize) -> u8
+    requires { ⌜ rowEnd (now bytes) at ≤ length (now bytes) ⌝ }
+    ensures { λ r. ⌜ r ≡ choiceFault t st (now (bytes .entry)) at ⌝ }
+{
+    let sets = machine::available_sets(t, st);
+    if !lists::are_in(sets, bytes, at) {
+        return 44;
+    }
+    if lists::is_few(fields::count_at(bytes, at), t.m, lists::total(sets)) {
+        return 45;
+    }
+    if lists::is_passing_over(sets, machine::ticks_left(st), bytes, at) {
+        return 46;
+    }
+    0
+}
+
+// A row that is refused: nothing moves.
+fn refused(p: Progress, number: u8) -> Progress
+    ensures { λ r. ⌜ r ≡ record { number = number; next = p .next; rows = p .rows; state = p .state } ⌝ }
+{
+    let st = p.state;
+    Progress {
+        number: number,
+        next: p.next,
+        rows: p.rows,
+        state: st,
+    }
+}
+
+// A row: its refusal, or the machine's tick with what it lists.
+fn judge_row(t: Table, bytes: &[u8], p: Progress) -> Progress
+    requires { ⌜ GoodTable t × (p .rows ≤ p .next) ⌝ }
+    ensures { λ r. ⌜ r ≡ judgeRow t (now (bytes .entry)) p ⌝ }
+{
+    let st = p.state;
+    let at = p.next;
+    let early = set_fault(t, st, bytes, at);
+    if early != 0 {
+        return refused(p, early);
+    }
+    let set = fields::set_at(bytes, at);
+    let begun = machine::release(t, st, set);
+    let late = choice_fault(t, begun, bytes, at);
+    if late != 0 {
+        return refused(p, late);
+    }
+    let chosen = lists::chosen_at(bytes, at);
+    let moved = machine::advance_from(t, begun, set, chosen);
+    let after = moved.state;
+    let end = fields::end_at(bytes, at);
+    Progress {
+        number: 0,
+        next: end,
+        rows: p.rows + 1,
+        state: after,
+    }
+}
+
+// The rows that begin before place `end`, from a state on, until one is refused.
+fn judge_rows(t: Table, bytes: &[u8], end: usize, st: State) -> Progress
+    requires { ⌜ GoodTable t ⌝ }
+    ensures { λ r. ⌜ r ≡ judgeRows t (now (bytes .entry)) end (start st) ⌝ }
+{
+    let mut p = Progress {
+        number: 0,
+        next: 0,
+        rows: 0,
+        state: st,
+    };
+    while p.next < end {
+        let q = judge_row(t, bytes, p);
+        if q.number != 0 {
+            return q;
+        }
+        p = q;
+    }
+    p
+}
+
+// The ruling at the end.
+fn rule(p: Progress) -> Ruling
+    ensures { λ r. ⌜ r ≡ ruling p ⌝ }
+{
+    if p.number == 0 {
+        let st = p.state;
+        let phase = st.phase;
+        return Ruling {
+            number: 0,
+            place: 0,
+            row: 0,
+            rows: p.rows,
+            missed: is_stopped(phase),
+        };
+    }
+    Ruling {
+        number: p.number,
+        place: 0,
+        row: p.rows,
+        rows: 0,
+        missed: false,
+    }
+}
+
+// The ruling on a file that is not read.
+fn unreadable(o: Outcome) -> Ruling
+    ensures { λ r. ⌜ r ≡ unread o ⌝ }
+{
+    Ruling {
+        number: table::number(o),
+        place: table::place(o),
+        row: 0,
+        rows: 0,
+        missed: false,
+    }
+}
+
+// Judges a piece of a journal, so that a buffer of some size is enough for any length.
+pub fn judge_piece(file: &[u8], piece: &[u8], end: usize, st: State) -> Progress
+    ensures { λ r. ⌜ r ≡ judgePiece (now (file .entry)) (now (piece .entry)) end st ⌝ }
+{
+    let loaded = table::read(file);
+    let o = loaded.outcome;
+    let Outcome::Read = o else {
+        return Progress {
+            number: table::number(o),
+            next: 0,
+            rows: 0,
+            state: st,
+        };
+    };
+    judge_rows(loaded.table, piece, end, st)
+}
+
+// Judges a journal against a table's bytes.
+pub fn judge(file: &[u8], journal: &[u8]) -> Ruling
+    ensures { λ r. ⌜ r ≡ judge (now (file .entry)) (now (journal .entry)) ⌝ }
+{
+    let loaded = table::read(file);
+    let o = loaded.outcome;
+    let Outcome::Read = o else {
+        return unreadable(o);
+    };
+    let idle = machine::zeros(0, Phase::Running);
+    rule(judge_rows(loaded.table, journal, journal.len(), idle))
+}

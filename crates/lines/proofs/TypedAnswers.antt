@@ -1,0 +1,33 @@
+-- The numbers of an answer that a function was handed are numbers of their types.
+use mathlib.Core.List.{List, [], _∷_, map}
+use mathlib.Core.Path.{sym, _∙_}
+use lib.ListN.{length-map}
+use mir.Val.{Val}
+use denote.Shadow.{shadow}
+use denote.Array.{each}
+use Rattle.machine.specs.declared.Pair.{Pair}
+use Rattle.machine.specs.declared.Answer.{Answer}
+use Rattle.machine.proofs.Pair as pair-type
+use Rattle.machine.proofs.Answer as answer-type
+use Rattle.lines.proofs.Length.{SmallPairs, TypedAnswer}
+
+abbrev AllTold : List Pair → List Val → Type 0
+AllTold l us = shadow (each (pair-type.the-field .row .Denot) (pair-type.the-field .row .own) (map (pair-type.the-field .into) l) us)
+
+all-small : (l : List Pair) (us : List Val) → AllTold l us → SmallPairs l
+unfolding SmallPairs
+all-small [] us p = tt
+all-small (a ∷ l) [] p = absurd p
+all-small (a ∷ l) (u ∷ us) p = (p .0 .1 .1 .0 .1, p .0 .1 .1 .1 .0 .1, all-small l us (p .1))
+
+-- from what a function is told of an answer that is its parameter
+pub typed-answer : (a : Answer) (us : List Val) → shadow (answer-type.the-row .own a us) → TypedAnswer a
+typed-answer a us p =
+    let r = p .1 .1 .0 in
+    let s = p .1 .1 .1 .0 in
+    record {
+      number-byte = r .1 .1 .0 .1;
+      task-byte = r .1 .1 .1 .1 .0 .1;
+      eight = sym (length-map (a .ran) (pair-type.the-field .into)) ∙ s .1 .0 .1;
+      small = all-small (a .ran) (s .0) (s .1 .1);
+    }
