@@ -22,11 +22,8 @@ enum {
     MT_UNUSED = 10  /* writing: an unused entry is not zero */
 };
 
-/* The verdict's numbers, besides 0 for accepted and those of reading. */
-enum {
-    MT_REFUSED = 20,    /* some margin is negative */
-    MT_LONG_CHAIN = 21  /* no margin is negative but some len exceeds its D; by a theorem this never comes */
-};
+/* The verdict's number, besides 0 for accepted and those of reading. */
+enum { MT_REFUSED = 20 };  /* some margin is negative */
 
 /* A tick's numbers, besides 0 and those of reading. */
 enum {
