@@ -21,7 +21,7 @@ use Rattle.table.specs.declared.Table.{Table}
 use Rattle.machine.specs.declared.State.{State}
 use Rattle.machine.specs.States.{left}
 use Rattle.machine.specs.Steps.{available, availables, availableSets}
-use Rattle.machine.proofs.Behind.{all-same}
+use Rattle.fitness.proofs.Behind.{all-same}
 use Rattle.machine.proofs.Searching.{set-small, bit-set}
 use Rattle.journal.specs.Rows.{rowCount, rowTask, rowVertex, listed, pairAvailable, notAvailable, passesOver}
 use Rattle.journal.specs.Listing.{inSet, AreVertices, Without}

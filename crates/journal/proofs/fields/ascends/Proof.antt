@@ -6,7 +6,7 @@ use lib.Dec.{ltb}
 use borrow.Author.Needs.{needs}
 use borrow.Author.Tests.{lt-ltb, le-ltb}
 use Rattle.graph.specs.Words.{all}
-use Rattle.machine.proofs.Behind.{all-more, all-off, all-done}
+use Rattle.fitness.proofs.Behind.{all-more, all-off, all-done}
 use Rattle.journal.specs.Rows.{rowEnd, rowPair, ascending}
 use Rattle.journal.proofs.fields.ascends.Statement.{statement}
 use Rattle.journal.proofs.fields.ascends.Tie as tie

@@ -5,7 +5,7 @@ use native.Mathlib.Omega.{arith}
 use borrow.Author.Needs.{needs}
 use borrow.Author.Tests.{not-true, not-false}
 use Rattle.graph.specs.Words.{all}
-use Rattle.machine.proofs.Behind.{all-more, all-off, all-done}
+use Rattle.fitness.proofs.Behind.{all-more, all-off, all-done}
 use Rattle.journal.specs.Rows.{rowTask, rowVertex, rowEnd}
 use Rattle.journal.specs.Listing.{inSet}
 use Rattle.journal.proofs.lists.are_in.Statement.{statement}

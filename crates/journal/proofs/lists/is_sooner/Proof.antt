@@ -8,7 +8,7 @@ use borrow.Author.Tests.{ltb-true, ltb-false}
 use lib.ListN.{getD}
 use lib.Dec.{leb, eqb}
 use Rattle.graph.specs.Words.{all}
-use Rattle.machine.proofs.Behind.{all-more, all-off, all-done}
+use Rattle.fitness.proofs.Behind.{all-more, all-off, all-done}
 use Rattle.journal.proofs.RowTests.{no-later, later-ticks, later-none}
 use Rattle.journal.proofs.lists.is_sooner.Statement.{statement}
 use Rattle.journal.proofs.lists.is_sooner.Tie as tie
