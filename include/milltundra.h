@@ -132,6 +132,10 @@ struct mt_write_answer mt_write(struct mt_table table, uint8_t *buffer, size_t c
 /* The verdict on a table file. */
 struct mt_verdict_answer mt_verdict(const uint8_t *bytes, size_t count);
 
+/* Whether the verdict on a table file is 0: 1 for yes, 0 for no. Stops at the first unreadable field, or at the first task whose due
+   work exceeds its allowance. */
+uint8_t mt_quick(const uint8_t *bytes, size_t count);
+
 /* The length of the report on a table file. Its text is written to the front of the buffer if it fits there, and the rest is left;
    nothing is written otherwise. */
 uint64_t mt_report(const uint8_t *bytes, size_t count, uint8_t *buffer, size_t room);

@@ -2,7 +2,7 @@
 //! falls on both. Buffers are not cleared in between. The ratio is ours over theirs: above 1, ours is the quicker.
 
 use bench::ticking::{Load, Runs};
-use bench::{accepted, sizes, Size};
+use bench::{accepted, refused, sizes, Size};
 use compare::face;
 use second::random::{file, Random};
 use second::table::LARGEST;
@@ -28,6 +28,7 @@ fn main() {
         reading(&size);
         writing(&size);
         judging(&size);
+        answering(&size);
         reporting(&size);
         opening(&size);
         ticking(&size, Load::One);
@@ -96,6 +97,44 @@ fn judging(size: &Size) {
         &format!("verdict {}", size.name),
         Box::new(ours),
         Box::new(theirs),
+    );
+}
+
+/// The quick answer beside the second program's, then beside our own verdict: it is sooner where a task fails, and no later where none
+/// does.
+fn answering(size: &Size) {
+    let good = good_files(size);
+    let ours = |k: usize| {
+        black_box(face::quick(black_box(&good[k])));
+    };
+    let theirs = |k: usize| {
+        black_box(second::quick(black_box(&good[k])));
+    };
+    measure(
+        &format!("quick   {}", size.name),
+        Box::new(ours),
+        Box::new(theirs),
+    );
+    beside_verdict(size, "accepted", &good);
+    for (which, words) in [(0, "the first task fails"), (usize::MAX, "the last fails")] {
+        let tables = good_tables(size).into_iter();
+        let files: Vec<Vec<u8>> = tables.map(|table| file(&refused(table, which))).collect();
+        beside_verdict(size, words, &files);
+    }
+}
+
+fn beside_verdict(size: &Size, words: &str, files: &[Vec<u8>]) {
+    let name = size.name.split(" vert").next().unwrap_or(size.name);
+    let quick = |k: usize| {
+        black_box(face::quick(black_box(&files[k])));
+    };
+    let whole = |k: usize| {
+        black_box(face::verdict(black_box(&files[k])));
+    };
+    measure(
+        &format!("quick over our verdict, {name}, {words}"),
+        Box::new(quick),
+        Box::new(whole),
     );
 }
 

@@ -4,6 +4,7 @@ pub mod comparison;
 pub mod face;
 pub mod judging;
 pub mod opening;
+pub mod quickly;
 pub mod reading;
 pub mod reporting;
 pub mod running;
@@ -11,10 +12,11 @@ pub mod ticking;
 pub mod writing;
 
 /// Every comparison; a new one is a line here.
-pub const COMPARISONS: [comparison::Comparison; 7] = [
+pub const COMPARISONS: [comparison::Comparison; 8] = [
     reading::READING,
     writing::WRITING,
     judging::JUDGING,
+    quickly::QUICKLY,
     reporting::REPORTING,
     opening::OPENING,
     ticking::TICKING,

@@ -7,6 +7,7 @@ pub mod flat;
 pub mod graph;
 pub mod legal;
 pub mod machine;
+pub mod quick;
 pub mod random;
 pub mod reader;
 pub mod report;
@@ -18,6 +19,7 @@ pub mod watch;
 pub mod writer;
 
 pub use machine::{open, tick, tick_in_place, Opened, State, Ticked};
+pub use quick::quick;
 pub use reader::{read, read_at, Core, Read};
 pub use report::report;
 pub use table::{Table, Task};

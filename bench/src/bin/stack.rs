@@ -93,6 +93,12 @@ fn verdict(r: &mut Random, k: u64) -> usize {
     taken(face::entry::mt_verdict as *const (), words, ())
 }
 
+fn quick(r: &mut Random, k: u64) -> usize {
+    let bytes = judged(r, k);
+    let words = [bytes.as_ptr() as usize, bytes.len(), 0, 0, 0, 0];
+    taken(face::entry::mt_quick as *const (), words, ())
+}
+
 fn report(r: &mut Random, k: u64) -> usize {
     let bytes = judged(r, k);
     let mut buffer = [0u8; face::REPORT_MOST];
@@ -150,6 +156,7 @@ fn main() {
         size_of::<face::Table>()
     );
     println!("mt_verdict {:>6} bytes", most(verdict));
+    println!("mt_quick   {:>6} bytes", most(quick));
     println!("mt_report  {:>6} bytes", most(report));
     println!("mt_open    {:>6} bytes", most(open));
     println!(
