@@ -14,10 +14,11 @@ use lib.Signed.{leZ, _≤ℤ_, clashℤ}
 use borrow.Author.Tests.{ltb-true, ltb-false, ne-eqb}
 use Rattle.graph.specs.Words.{sum, row}
 use Rattle.graph.specs.Graph.{longestOf}
+use Rattle.graph.proofs.Facts.{sum-same, sum-upto, row-at}
 use Rattle.table.specs.declared.Table.{Table}
 use Rattle.table.specs.declared.Outcome.the-variants.{Read}
 use Rattle.table.specs.declared.Loaded.{Loaded}
-use Rattle.table.specs.Memory.{D, T, succ}
+use Rattle.table.specs.Memory.{vertices, D, T, succ, cost}
 use Rattle.table.specs.Reading.{read}
 use Rattle.table.specs.Good.{GoodTable}
 use Rattle.table.proofs.PartLaws.{told-other}
@@ -62,6 +63,14 @@ module _ (t : Table) (good : GoodTable t) where
       (λ r. absurd (clashℤ (r .1 .negative) (rw (r .1 .its-margin) (not-less _ _ (h (verdictOn t .task) (r .1 .below))))))
       (λ r. rw (r .0))
       (table-says t good)
+
+  -- its vol is the sum of its sixteen costs as they lie in memory
+  pub vol-found : (k : ℕ) → k < t .n → (own : List ℕ) (x : ℕ) → own ≡ row 16 (λ u. getD (t .costs) (16 * k + u) 0)
+      → x ≡ sum 16 (λ u. getD own u 0) → x ≡ vol t k
+  unfolding vol cost
+  vol-found k b own x e h =
+      h ∙ ap (λ (l : List ℕ). sum 16 (λ u. getD l u 0)) e ∙ sum-same 16 _ _ (λ u l. row-at 16 (λ u. getD (t .costs) (16 * k + u) 0) u 0 l)
+      ∙ sum-upto (vertices t k) 16 (cost t k) (good .each k b .v-high) (good .each k b .unused)
 
   -- ---- one task, over rows that hold the periods and the vols
   module _ (k : ℕ) (b : k < t .n) (times vols : List ℕ)

@@ -17,21 +17,34 @@ fn wide(x: u32) -> u64
     x as u64
 }
 
-// The sum of the first v of task i's sixteen costs.
-fn vol_of(costs: &[u32; 256], i: usize, v: usize) -> u64
-    requires { ⌜ (i < 16) × (v ≤ 16) ⌝ }
-    ensures { λ r. ⌜ r ≡ sum v (λ u. getD (now (costs .entry)) (16 * i + u) 0) ⌝ }
+// Task i's own sixteen costs.
+fn own_costs(costs: &[u32; 256], i: usize) -> [u32; 16]
+    requires { ⌜ i < 16 ⌝ }
+    ensures { λ r. ⌜ r ≡ row 16 (λ u. getD (now (costs .entry)) (16 * i + u) 0) ⌝ }
+{
+    let mut own = [0u32; 16];
+    let mut u: usize = 0;
+    while u < 16 {
+        own[u] = costs[16 * i + u];
+        u += 1;
+    }
+    own
+}
+
+// The sum of sixteen costs.
+fn total_of(own: [u32; 16]) -> u64
+    ensures { λ r. ⌜ r ≡ sum 16 (λ u. getD own u 0) ⌝ }
 {
     let mut total: u64 = 0;
     let mut u: usize = 0;
-    while u < v {
-        total += wide(costs[16 * i + u]);
+    while u < 16 {
+        total += wide(own[u]);
         u += 1;
     }
     total
 }
 
-// The vol of each task.
+// The vol of each task: costs of vertices from v on are 0.
 pub(crate) fn volumes(t: Table) -> [u64; 16]
     requires { ⌜ GoodTable t ⌝ }
     ensures { λ r. ⌜ ((i : ℕ) → i < t .n → getD r i 0 ≡ vol t i) ⌝ }
@@ -39,8 +52,8 @@ pub(crate) fn volumes(t: Table) -> [u64; 16]
     let mut vols = [0u64; 16];
     let mut i: usize = 0;
     while i < t.n as usize {
-        let v = t.tasks[i].v;
-        vols[i] = vol_of(&t.costs, i, v as usize);
+        let own = own_costs(&t.costs, i);
+        vols[i] = total_of(own);
         i += 1;
     }
     vols
@@ -58,20 +71,6 @@ pub(crate) fn periods(t: Table) -> [u32; 16]
         i += 1;
     }
     times
-}
-
-// Task i's own sixteen costs.
-fn own_costs(costs: &[u32; 256], i: usize) -> [u32; 16]
-    requires { ⌜ i < 16 ⌝ }
-    ensures { λ r. ⌜ r ≡ row 16 (λ u. getD (now (costs .entry)) (16 * i + u) 0) ⌝ }
-{
-    let mut own = [0u32; 16];
-    let mut u: usize = 0;
-    while u < 16 {
-        own[u] = costs[16 * i + u];
-        u += 1;
-    }
-    own
 }
 
 // The longest chain of task i, whose successors are given.
