@@ -94,9 +94,9 @@ pub fn ticks_left(st: State) -> [u32; 16]
 }
 
 // The task that ranks first of those up to i, `best` being that of those before it.
-fn better(sets: [u16; 16], left: [u32; 16], best: usize, i: usize) -> usize
-    requires { ⌜ (i < 16) × RanksFirst i sets left best ⌝ }
-    ensures { λ r. ⌜ RanksFirst (i + 1) sets left r ⌝ }
+fn better(sets: &[u16; 16], left: &[u32; 16], best: usize, i: usize) -> usize
+    requires { ⌜ (i < 16) × RanksFirst i (now sets) (now left) best ⌝ }
+    ensures { λ r. ⌜ RanksFirst (i + 1) (now (sets .entry)) (now (left .entry)) r ⌝ }
 {
     if sets[i] == 0 {
         return best;
@@ -116,7 +116,7 @@ fn next_task(sets: [u16; 16], left: [u32; 16]) -> usize
 {
     let mut best: usize = 16;
     for i in 0..16usize {
-        best = better(sets, left, best, i);
+        best = better(&sets, &left, best, i);
     }
     best
 }
