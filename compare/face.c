@@ -1,4 +1,4 @@
-/* The C face from C: table A of document 01 is read, written back, judged, reported, opened and run. */
+/* The C face from C: table A of document 01 is read, written back, judged, reported, opened and run, and a journal of it judged. */
 #include "milltundra.h"
 #include <stdio.h>
 #include <string.h>
@@ -50,6 +50,25 @@ static int runs(void) {
     return 0;
 }
 
+/* The first three ticks of the same run as a journal. */
+static int judges(void) {
+    uint8_t rows[] = {0x4A, 0x52, 3, 0, 2, 1, 0, 1, 1, 0x4A, 0x52, 0, 0, 2, 1, 0, 1, 1, 0x4A, 0x52, 0, 0, 1, 0, 0};
+    struct mt_ruling j = mt_judge(a, sizeof a, rows, sizeof rows);
+    if (j.number != MT_DONE || j.rows != 3 || j.missed != 0 || j.row != 0 || j.place != 0)
+        return failed("a journal of table A is refused");
+    j = mt_judge(a, sizeof a, rows, sizeof rows - 1);
+    if (j.number != MT_ROW_SHORT || j.row != 2 || j.rows != 0)
+        return failed("a row cut short is not refused");
+    rows[9] = 0;
+    j = mt_judge(a, sizeof a, rows, sizeof rows);
+    if (j.number != MT_ROW_MARK || j.row != 1 || j.rows != 0)
+        return failed("a wrong mark in a journal is not refused");
+    j = mt_judge(a, 51, rows, sizeof rows);
+    if (j.number != MT_SHORT || j.place != 48 || j.row != 0 || j.rows != 0)
+        return failed("a journal of a file cut short is judged");
+    return 0;
+}
+
 int main(void) {
     struct mt_read_answer r = mt_read(a, sizeof a);
     if (r.number != MT_DONE || r.place != 0 || r.table.m != 2 || r.table.n != 2)
@@ -90,8 +109,8 @@ int main(void) {
         return failed("a report that does not fit is written");
     if (mt_report(a, sizeof a, report, sizeof report) != length || memcmp(report, text, length) != 0 || report[length] != 0xA5)
         return failed("the report on table A is wrong");
-    if (runs() != 0)
+    if (runs() != 0 || judges() != 0)
         return 1;
-    puts("the C face from C: table A is read, written back, judged, reported, opened and run");
+    puts("the C face from C: table A is read, written back, judged, reported, opened and run, and a journal of it judged");
     return 0;
 }

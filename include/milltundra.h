@@ -34,6 +34,17 @@ enum {
     MT_MISSED = 34    /* a live job's deadline is reached, lowest task; the state is stopped there */
 };
 
+/* The judge's numbers for a row, besides MT_NO_SUCH and MT_EARLY. */
+enum {
+    MT_ROW_SHORT = 40,      /* a row cut short */
+    MT_ROW_MARK = 41,       /* wrong mark */
+    MT_ROW_LIST = 42,       /* count above m or pairs not ascending */
+    MT_NOT_AVAILABLE = 44,  /* a listed vertex not available */
+    MT_TOO_FEW = 45,        /* fewer listed than the smaller of m and the available */
+    MT_PASSED_OVER = 46,    /* an earlier deadline passed over */
+    MT_AFTER_MISS = 47      /* any byte after a miss */
+};
+
 /* The task of an answer that names none, and both numbers of an unused place of a run list. */
 enum { MT_NO_TASK = 255 };
 
@@ -123,6 +134,16 @@ struct mt_tick_answer {
     struct mt_state state;
 };
 
+/* The ruling on a journal: number 0, the number of rows, and `missed` 1 if the last one missed; or the refusal's number and row,
+   counted from 0, for reading's numbers the place and row 0. All else is 0. */
+struct mt_ruling {
+    uint8_t number;
+    uint8_t missed;
+    uint64_t place;
+    uint64_t row;
+    uint64_t rows;
+};
+
 /* Reads a table file. */
 struct mt_read_answer mt_read(const uint8_t *bytes, size_t count);
 
@@ -145,5 +166,8 @@ struct mt_open_answer mt_open(const uint8_t *bytes, size_t count, uint32_t clock
 
 /* One tick of the machine; bit i of the release set names task i. */
 struct mt_tick_answer mt_tick(const uint8_t *bytes, size_t count, struct mt_state state, uint16_t releases);
+
+/* Judges a panel's journal of a table file: whether every row is a legal tick, from an idle machine on. */
+struct mt_ruling mt_judge(const uint8_t *bytes, size_t count, const uint8_t *journal, size_t length);
 
 #endif

@@ -101,12 +101,24 @@ pub struct TickAnswer {
     pub state: State,
 }
 
+/// `struct mt_ruling`
+#[repr(C)]
+#[derive(Clone, Copy, PartialEq, Eq, Debug)]
+pub struct Ruling {
+    pub number: u8,
+    pub missed: u8,
+    pub place: u64,
+    pub row: u64,
+    pub rows: u64,
+}
+
 /// `MT_REPORT_MOST`: a buffer of this many bytes holds every report.
 pub const REPORT_MOST: usize = 1312;
 
 /// The functions themselves, for measurements.
 pub mod entry {
-    use super::{OpenAnswer, ReadAnswer, State, Table, TickAnswer, VerdictAnswer, WriteAnswer};
+    use super::{OpenAnswer, ReadAnswer, Ruling, State};
+    use super::{Table, TickAnswer, VerdictAnswer, WriteAnswer};
 
     extern "C" {
         pub fn mt_read(bytes: *const u8, count: usize) -> ReadAnswer;
@@ -116,6 +128,12 @@ pub mod entry {
         pub fn mt_report(bytes: *const u8, count: usize, buffer: *mut u8, room: usize) -> u64;
         pub fn mt_open(bytes: *const u8, count: usize, clock: u32) -> OpenAnswer;
         pub fn mt_tick(bytes: *const u8, count: usize, state: State, releases: u16) -> TickAnswer;
+        pub fn mt_judge(
+            bytes: *const u8,
+            count: usize,
+            journal: *const u8,
+            length: usize,
+        ) -> Ruling;
     }
 }
 
@@ -159,6 +177,11 @@ pub fn open(bytes: &[u8], clock: u32) -> OpenAnswer {
 pub fn tick(bytes: &[u8], state: State, releases: u16) -> TickAnswer {
     // Safe: as for `read`, and any state gets an answer.
     unsafe { entry::mt_tick(bytes.as_ptr(), bytes.len(), state, releases) }
+}
+
+pub fn judge(bytes: &[u8], journal: &[u8]) -> Ruling {
+    // Safe: both pointers and counts are those of slices, and any bytes get an answer.
+    unsafe { entry::mt_judge(bytes.as_ptr(), bytes.len(), journal.as_ptr(), journal.len()) }
 }
 
 impl From<&second::Table> for Table {
@@ -213,6 +236,18 @@ impl From<&FlatTicked> for TickAnswer {
             ran: ticked.ran.map(|(task, vertex)| Pair { task, vertex }),
             finished: ticked.finished,
             state: State::from(&ticked.state),
+        }
+    }
+}
+
+impl From<&second::judge::Ruling> for Ruling {
+    fn from(ruling: &second::judge::Ruling) -> Ruling {
+        Ruling {
+            number: ruling.number,
+            missed: u8::from(ruling.missed),
+            place: ruling.place as u64,
+            row: ruling.row as u64,
+            rows: ruling.rows as u64,
         }
     }
 }

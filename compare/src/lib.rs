@@ -2,6 +2,7 @@
 
 pub mod comparison;
 pub mod face;
+pub mod journals;
 pub mod judging;
 pub mod opening;
 pub mod quickly;
@@ -22,4 +23,5 @@ pub const COMPARISONS: [comparison::Comparison; 8] = [
     opening::OPENING,
     ticking::TICKING,
     running::RUNNING,
+    journals::JOURNALS,
 ];

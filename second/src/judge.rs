@@ -32,6 +32,30 @@ pub fn judge(file: &[u8], journal: &[u8]) -> Ruling {
     judge_table(&found.table, journal)
 }
 
+impl Ruling {
+    /// The judge program's line.
+    pub fn line(&self) -> String {
+        let (number, rows) = (self.number, self.rows);
+        match number {
+            0 if self.missed => format!("legal {rows} rows, the last missed\n"),
+            0 => format!("legal {rows} rows\n"),
+            1..=8 => format!("unreadable {number} at {}\n", self.place),
+            _ => format!("refuse {number} at row {}\n", self.row),
+        }
+    }
+}
+
+/// The line that the judge program prints for an input: a table's length in
+/// two bytes, the table, then the journal to the end. Where the input ends
+/// within the table, the table is what is there.
+pub fn judge_line(input: &[u8]) -> String {
+    let byte = |at: usize| usize::from(input.get(at).copied().unwrap_or(0));
+    let rest = input.get(2..).unwrap_or(&[]);
+    let length = byte(0) + 256 * byte(1);
+    let (file, journal) = rest.split_at(length.min(rest.len()));
+    judge(file, journal).line()
+}
+
 /// Judges a journal of a table that the reader gave.
 pub fn judge_table(table: &Table, journal: &[u8]) -> Ruling {
     let mut state = State::zeros(0, Phase::Running);

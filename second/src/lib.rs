@@ -2,6 +2,7 @@
 //! machine and judge of journals, written from documents 01 and 02 alone, to be
 //! compared with the first.
 
+pub mod beside;
 pub mod examples;
 pub mod explore;
 pub mod flat;

@@ -1,14 +1,12 @@
 -- How the code judges a row, for the contracts of its parts: each task has a set of vertices as sixteen bits. And judging a piece.
 use mathlib.Core.Path.{_≡_}
-use mathlib.Core.Bool.{Bool, _&&_, not}
+use mathlib.Core.Bool.{Bool, _&&_, _||_, not}
 use mathlib.Core.List.{List}
 use Prim.Native.Nat.{ℕ, _+_, _*_, _≤_, _<_}
 use lib.ListN.{length, getD}
 use lib.Dec.{ltb}
-use Rattle.graph.specs.Words.{bit, isIn}
+use Rattle.graph.specs.Words.{pick, bit, isIn}
 use Rattle.table.specs.declared.Table.{Table}
-use Rattle.table.specs.Numbers.{number}
-use Rattle.table.specs.Reading.{whenRead, read}
 use Rattle.machine.specs.declared.State.{State}
 use Rattle.machine.specs.Steps.{released}
 use Rattle.journal.specs.declared.Progress.{Progress}
@@ -34,8 +32,16 @@ pub record SetTested (t : Table) (st : State) (s : List ℕ) (at n : ℕ) : Type
   pub whole : n ≡ 0 → rowEnd s at ≤ length s
   pub few : n ≡ 0 → rowCount s at ≤ t .m
 
+-- "m 1 to 8, n 1 to 16": a table that is above either, or not
+unfoldable pub tooWide : Table → Bool
+tooWide t = ltb 8 (t .m) || ltb 16 (t .n)
+
+pub record Narrow (t : Table) : Type 0 where
+  pub m-high : t .m ≤ 8
+  pub n-high : t .n ≤ 16
+
 -- A PIECE s of a journal, from a state on: its rows that begin before place `end`, counted from 0 (what it is of the whole:
--- `InPieces`, specs/Pieces.antt). A file that is not read gives reading's number, and nothing moves.
-unfoldable pub judgePiece : List ℕ → List ℕ → ℕ → State → Progress
-judgePiece file s end st =
-    whenRead (read file .outcome) (λ o. record { number = number o; next = 0; rows = 0; state = st }) λ _. judgeRows (read file .table) s end (start st)
+-- `InPieces`, specs/Pieces.antt). Any table may be handed over: one above the ranges is refused with 3, "m, n, v or e outside its
+-- range", and nothing moves; no file gives such a table (`piece-read`, proofs/Entries.antt).
+unfoldable pub judgePiece : Table → List ℕ → ℕ → State → Progress
+judgePiece t s end st = pick (tooWide t) (record { number = 3; next = 0; rows = 0; state = st }) (judgeRows t s end (start st))

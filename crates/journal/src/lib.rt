@@ -6,6 +6,8 @@ mod walk;
 use machine::State;
 pub use walk::judge;
 pub use walk::judge_piece;
+pub use walk::rule;
+pub use walk::unreadable;
 
 // The ruling on a journal: number 0, the number of rows, and whether the last one missed; or the refusal's number and row, for
 // reading's numbers the place and row 0.

@@ -2,9 +2,8 @@
 ghost use mathlib.Core.Path.{_≡_};
 ghost use Prim.Native.Nat.{_≤_};
 ghost use lib.ListN.{length};
-ghost use Rattle.table.specs.Good.{GoodTable};
 ghost use Rattle.journal.specs.Rows.{rowEnd, isStopped, choiceFault};
-ghost use Rattle.journal.specs.Listing.{SetTested, judgePiece};
+ghost use Rattle.journal.specs.Listing.{SetTested, tooWide, Narrow, judgePiece};
 ghost use Rattle.journal.specs.Judging.{judgeRow, judgeRows, start, ruling, unread, judge};
 use crate::Progress;
 use crate::Ruling;
@@ -27,7 +26,7 @@ fn is_stopped(phase: Phase) -> bool
 
 // The refusals of a row's bytes and of its release set, in order; 0 if there is none.
 fn set_fault(t: Table, st: State, bytes: &[u8], at: usize) -> u8
-    requires { ⌜ GoodTable t ⌝ }
+    requires { ⌜ Narrow t ⌝ }
     ensures { λ r. ⌜ SetTested t st (now (bytes .entry)) at r ⌝ }
 {
     let phase = st.phase;
@@ -86,7 +85,7 @@ fn refused(p: Progress, number: u8) -> Progress
 
 // A row: its refusal, or the machine's tick with what it lists.
 fn judge_row(t: Table, bytes: &[u8], p: Progress) -> Progress
-    requires { ⌜ GoodTable t × (p .rows ≤ p .next) ⌝ }
+    requires { ⌜ Narrow t × (p .rows ≤ p .next) ⌝ }
     ensures { λ r. ⌜ r ≡ judgeRow t (now (bytes .entry)) p ⌝ }
 {
     let st = p.state;
@@ -115,7 +114,7 @@ fn judge_row(t: Table, bytes: &[u8], p: Progress) -> Progress
 
 // The rows that begin before place `end`, from a state on, until one is refused.
 fn judge_rows(t: Table, bytes: &[u8], end: usize, st: State) -> Progress
-    requires { ⌜ GoodTable t ⌝ }
+    requires { ⌜ Narrow t ⌝ }
     ensures { λ r. ⌜ r ≡ judgeRows t (now (bytes .entry)) end (start st) ⌝ }
 {
     let mut p = Progress {
@@ -135,7 +134,7 @@ fn judge_rows(t: Table, bytes: &[u8], end: usize, st: State) -> Progress
 }
 
 // The ruling at the end.
-fn rule(p: Progress) -> Ruling
+pub fn rule(p: Progress) -> Ruling
     ensures { λ r. ⌜ r ≡ ruling p ⌝ }
 {
     if p.number == 0 {
@@ -159,7 +158,7 @@ fn rule(p: Progress) -> Ruling
 }
 
 // The ruling on a file that is not read.
-fn unreadable(o: Outcome) -> Ruling
+pub fn unreadable(o: Outcome) -> Ruling
     ensures { λ r. ⌜ r ≡ unread o ⌝ }
 {
     Ruling {
@@ -171,21 +170,29 @@ fn unreadable(o: Outcome) -> Ruling
     }
 }
 
-// Judges a piece of a journal, so that a buffer of some size is enough for any length.
-pub fn judge_piece(file: &[u8], piece: &[u8], end: usize, st: State) -> Progress
-    ensures { λ r. ⌜ r ≡ judgePiece (now (file .entry)) (now (piece .entry)) end st ⌝ }
+// Whether a table has more processors or tasks than one that is read.
+fn is_too_wide(t: Table) -> bool
+    ensures { λ r. ⌜ r ≡ tooWide t ⌝ }
 {
-    let loaded = table::read(file);
-    let o = loaded.outcome;
-    let Outcome::Read = o else {
+    if 8 < t.m {
+        return true;
+    }
+    16 < t.n
+}
+
+// Judges a piece of a journal, so that a buffer of some size is enough for any length.
+pub fn judge_piece(t: Table, piece: &[u8], end: usize, st: State) -> Progress
+    ensures { λ r. ⌜ r ≡ judgePiece t (now (piece .entry)) end st ⌝ }
+{
+    if is_too_wide(t) {
         return Progress {
-            number: table::number(o),
+            number: 3,
             next: 0,
             rows: 0,
             state: st,
         };
-    };
-    judge_rows(loaded.table, piece, end, st)
+    }
+    judge_rows(t, piece, end, st)
 }
 
 // Judges a journal against a table's bytes.

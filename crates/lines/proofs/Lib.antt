@@ -5,5 +5,6 @@ pub mod Held
 -- THE CODE: laws that its proofs cite.
 pub mod Parted
 pub mod Lined
+pub mod Rulings
 pub mod Steps
 pub mod Unique

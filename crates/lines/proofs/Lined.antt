@@ -29,7 +29,7 @@ module _ (s : List ℕ) (clock : ℕ) (l : Loaded) (h : l ≡ read s) where
 pub ruleset line-laws = (told-other, put-stop, put-got)
 
 -- ---- zeros behind the text
-line-put : (l after : List ℕ) (next : ℕ) → length l ≤ 512 → Put (replicate 512 0) 0 l after next → (record { bytes = after; len = next }) ≡ lineOf l
+pub line-put : (l after : List ℕ) (next : ℕ) → length l ≤ 512 → Put (replicate 512 0) 0 l after next → (record { bytes = after; len = next }) ≡ lineOf l
 unfolding lineOf
 line-put l after next h p =
     let n : next ≡ length l = omega (arith, p .behind) in

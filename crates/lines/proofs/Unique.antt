@@ -13,6 +13,8 @@ use Rattle.lines.proofs.showing.show_opening.Kinds as show-opening-kind
 use Rattle.lines.proofs.showing.show_opening.Reads as show-opening-reads
 use Rattle.lines.proofs.showing.show_tick.Kinds as show-tick-kinds
 use Rattle.lines.proofs.showing.show_tick.Reads as show-tick-reads
+use Rattle.lines.proofs.ruling.ruling_line.Kinds as ruling-line-kinds
+use Rattle.lines.proofs.ruling.ruling_line.Reads as ruling-line-reads
 
 pub open-line-one : OneResult 1 open-line-kinds.ps open-line-kinds.r open-line-reads.Post
 open-line-one κs args x y s t = by-definition
@@ -31,3 +33,6 @@ show-opening-one κs args x y s t = by-definition
 
 pub show-tick-one : OneResult 1 show-tick-kinds.ps show-tick-kinds.r show-tick-reads.Post
 show-tick-one κs args x y s t = by-definition
+
+pub ruling-line-one : OneResult 0 ruling-line-kinds.ps ruling-line-kinds.r ruling-line-reads.Post
+ruling-line-one κs args x y s t = by-definition

@@ -1,11 +1,13 @@
-// The lines that show a table run, tick by tick. The definitions are in specs/, what they mean in proofs/.
+// The lines that show a table run, tick by tick, and the judge's line. The definitions are in specs/, what they mean in proofs/.
 mod opening;
 mod parts;
+mod ruling;
 mod showing;
 mod ticking;
 
 use machine::State;
 pub use opening::open_line;
+pub use ruling::ruling_line;
 pub use showing::clock_of;
 pub use showing::set_of;
 pub use showing::show_opening;

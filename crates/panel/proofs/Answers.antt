@@ -3,7 +3,8 @@ use mathlib.Core.Path.{_≡_, refl}
 use mathlib.Core.List.{List}
 use Prim.Native.Nat.{ℕ}
 use lib.IntN.{ℤ}
-use Rattle.panel.specs.Answers.{readAnswer, writeAnswer, verdictAnswer}
+use Rattle.graph.specs.Words.{pick}
+use Rattle.panel.specs.Answers.{readAnswer, writeAnswer, verdictAnswer, rulingFace, rulingAnswer}
 use Rattle.table.specs.declared.Loaded.{Loaded}
 use Rattle.table.specs.declared.Table.{Table}
 use Rattle.table.specs.declared.Written.{Written}
@@ -12,6 +13,8 @@ use Rattle.table.specs.Reading.{read}
 use Rattle.table.specs.Writing.{writing}
 use Rattle.verdict.specs.declared.Verdict.{Verdict}
 use Rattle.verdict.specs.Verdicts.{verdict}
+use Rattle.journal.specs.declared.Ruling.{Ruling}
+use Rattle.journal.specs.Judging.{judge}
 
 pub answers-read : (s : List ℕ) (l : Loaded) (n p : ℕ) → l ≡ read s → n ≡ number (l .outcome) → p ≡ place (l .outcome) → readAnswer s ≡ record { number = n; place = p; table = l .table }
 unfolding readAnswer
@@ -25,3 +28,8 @@ answers-write t room w n p is-written is-number is-place = rw is-number (rw is-p
 pub answers-verdict : (s : List ℕ) (v : Verdict) (z : ℤ) → v ≡ verdict s → z ≡ v .margin → verdictAnswer s ≡ record { number = v .number; task = v .task; place = v .place; margin = z }
 unfolding verdictAnswer
 answers-verdict s v z is-verdict is-margin = rw is-margin (rw is-verdict refl)
+
+pub answers-ruling : (s j : List ℕ) (r : Ruling) (m : ℕ) → r ≡ judge s j → m ≡ pick (r .missed) 1 0
+    → rulingAnswer s j ≡ record { number = r .number; missed = m; place = r .place; row = r .row; rows = r .rows }
+unfolding rulingAnswer rulingFace
+answers-ruling s j r m is-ruling is-missed = rw is-missed (rw is-ruling refl)

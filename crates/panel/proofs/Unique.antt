@@ -23,6 +23,8 @@ use Rattle.panel.proofs.verdicts.mt_quick.Kinds as mt-quick-kinds
 use Rattle.panel.proofs.verdicts.mt_quick.Reads as mt-quick-reads
 use Rattle.panel.proofs.verdicts.mt_report.Kinds as mt-report-kinds
 use Rattle.panel.proofs.verdicts.mt_report.Reads as mt-report-reads
+use Rattle.panel.proofs.judging.mt_judge.Kinds as mt-judge-kinds
+use Rattle.panel.proofs.judging.mt_judge.Reads as mt-judge-reads
 
 pub mt-read-one : OneResult 1 mt-read-kinds.ps mt-read-kinds.r mt-read-reads.Post
 mt-read-one κs args x y s t = by-definition
@@ -47,3 +49,6 @@ mt-open-one κs args x y s t = by-definition
 
 pub mt-tick-one : OneResult 1 mt-tick-kinds.ps mt-tick-kinds.r mt-tick-reads.Post
 mt-tick-one κs args x y s t = by-definition
+
+pub mt-judge-one : OneResult 2 mt-judge-kinds.ps mt-judge-kinds.r mt-judge-reads.Post
+mt-judge-one κs args x y s t = by-definition

@@ -1,4 +1,5 @@
--- Document 01, "Numbers for reading and writing", "The verdict" and "The machine": the answers as they cross the C face.
+-- Document 01, "Numbers for reading and writing", "The verdict" and "The machine", and document 02, M-100: the answers as they cross
+-- the C face.
 use mathlib.Core.List.{List}
 use Prim.Native.Nat.{ℕ}
 use Rattle.panel.specs.declared.ReadAnswer.{ReadAnswer}
@@ -7,6 +8,7 @@ use Rattle.panel.specs.declared.VerdictAnswer.{VerdictAnswer}
 use Rattle.panel.specs.declared.FaceState.{FaceState}
 use Rattle.panel.specs.declared.OpenAnswer.{OpenAnswer}
 use Rattle.panel.specs.declared.TickAnswer.{TickAnswer}
+use Rattle.panel.specs.declared.RulingAnswer.{RulingAnswer}
 use Rattle.panel.specs.States.{faceOf, stateOf, isProper}
 use Rattle.graph.specs.Words.{pick, row}
 use Rattle.machine.specs.declared.Opened.{Opened}
@@ -18,6 +20,8 @@ use Rattle.table.specs.Numbers.{number, place, writingNumber, writingPlace}
 use Rattle.table.specs.Reading.{whenRead, read}
 use Rattle.table.specs.Writing.{writing}
 use Rattle.verdict.specs.Verdicts.{verdict}
+use Rattle.journal.specs.declared.Ruling.{Ruling}
+use Rattle.journal.specs.Judging.{judge}
 
 -- "A refusal returns number, place and a table of zeros"; "Success has number 0; its place is 0 for the reader"
 unfoldable pub readAnswer : List ℕ → ReadAnswer
@@ -58,3 +62,11 @@ unfoldable pub tickAnswer : List ℕ → FaceState → ℕ → TickAnswer
 tickAnswer s f named =
     whenRead (read s .outcome) (λ o. refusedFace f (number o) (place o)) λ _.
     pick (isProper f) (tickedFace (tick s (stateOf f) named)) (refusedFace f 30 0)
+
+-- M-100: "give the number of rows and whether the last one missed; or give the refusal's number and row, counted from 0 (for
+-- reading's numbers the place, row 0)"
+unfoldable pub rulingFace : Ruling → RulingAnswer
+rulingFace r = record { number = r .number; missed = pick (r .missed) 1 0; place = r .place; row = r .row; rows = r .rows }
+
+unfoldable pub rulingAnswer : List ℕ → List ℕ → RulingAnswer
+rulingAnswer s j = rulingFace (judge s j)

@@ -1,9 +1,11 @@
 // The C face: functions that a program in C or Rust calls, and the answers that they hand back. include/milltundra.h declares them.
+mod judging;
 mod states;
 mod tables;
 mod ticks;
 mod verdicts;
 
+pub use judging::mt_judge;
 pub use tables::mt_read;
 pub use tables::mt_write;
 pub use ticks::mt_open;
@@ -72,4 +74,14 @@ pub struct TickAnswer {
     pub ran: [machine::Pair; 8],
     pub finished: u16,
     pub state: FaceState,
+}
+
+// The judge's number, whether the last row missed (0 or 1), its place, its row and the number of rows.
+#[repr(C)]
+pub struct RulingAnswer {
+    pub number: u8,
+    pub missed: u8,
+    pub place: u64,
+    pub row: u64,
+    pub rows: u64,
 }

@@ -1,12 +1,12 @@
 //! Holds the watch program against this one on fresh random inputs: random
 //! tables and releases, and some inputs cut short at every place.
 
+use second::beside::{ended, same, wanted};
 use second::random::*;
 use second::watch;
 use std::collections::BTreeMap;
-use std::io::Write;
-use std::process::{Command, ExitCode, Stdio};
-use std::time::{Instant, SystemTime, UNIX_EPOCH};
+use std::process::ExitCode;
+use std::time::Instant;
 
 const USAGE: &str = "beside-watch PROGRAM [--seed X] [--inputs N]
     X   seed of the first input, from the clock where it is not given; the input after it has X + 1
@@ -19,35 +19,8 @@ const CUT: u64 = 300;
 
 fn main() -> ExitCode {
     let words: Vec<String> = std::env::args().skip(1).collect();
-    match wanted(&words).map(|(program, seed, inputs)| all(program, seed, inputs)) {
-        None => {
-            eprintln!("{USAGE}");
-            ExitCode::from(2)
-        }
-        Some(Ok(said)) => {
-            println!("{said}");
-            ExitCode::SUCCESS
-        }
-        Some(Err(said)) => {
-            eprintln!("{said}");
-            ExitCode::FAILURE
-        }
-    }
-}
-
-fn wanted(words: &[String]) -> Option<(&str, u64, u64)> {
-    let (program, rest) = words.split_first()?;
-    let clock = SystemTime::now().duration_since(UNIX_EPOCH).ok()?;
-    let (mut seed, mut inputs) = (clock.as_nanos() as u64, 1_500);
-    for pair in rest.chunks(2) {
-        let value = pair.get(1)?.parse().ok()?;
-        match pair[0].as_str() {
-            "--seed" => seed = value,
-            "--inputs" => inputs = value,
-            _ => return None,
-        }
-    }
-    Some((program, seed, inputs))
+    let done = wanted(&words, 1_500).map(|(program, seed, inputs)| all(program, seed, inputs));
+    ended(done, USAGE)
 }
 
 /// Every input; what was met, or where the sides differ.
@@ -75,17 +48,8 @@ fn all(program: &str, seed: u64, inputs: u64) -> Result<String, String> {
 
 /// One input on both sides.
 fn one(program: &str, input: &[u8], met: &mut BTreeMap<String, u64>) -> Result<(), String> {
-    let ours = run_program(program, input).map_err(|e| format!("{program}: {e}"))?;
     let theirs = watch(input);
-    if ours != theirs {
-        let hex: Vec<String> = input.iter().map(|b| format!("{b:02X}")).collect();
-        return Err(format!(
-            "the sides differ\ninput {}\nours\n{}theirs\n{}",
-            hex.join(" "),
-            String::from_utf8_lossy(&ours),
-            String::from_utf8_lossy(&theirs)
-        ));
-    }
+    same(program, input, &theirs)?;
     for line in String::from_utf8_lossy(&theirs).lines() {
         *met.entry(kind(line)).or_insert(0) += 1;
     }
@@ -101,26 +65,4 @@ fn kind(line: &str) -> String {
         _ if line.contains("miss") => String::from("miss"),
         _ => String::from("ran"),
     }
-}
-
-/// The program's output. It may end before it has read all of its input.
-fn run_program(program: &str, input: &[u8]) -> std::io::Result<Vec<u8>> {
-    let mut child = Command::new(program)
-        .stdin(Stdio::piped())
-        .stdout(Stdio::piped())
-        .spawn()?;
-    let mut pipe = child.stdin.take().expect("it was asked for");
-    let bytes = input.to_vec();
-    let writer = std::thread::spawn(move || {
-        let _ = pipe.write_all(&bytes);
-    });
-    let out = child.wait_with_output()?;
-    let _ = writer.join();
-    if !out.status.success() {
-        return Err(std::io::Error::other(format!(
-            "it ended with {}",
-            out.status
-        )));
-    }
-    Ok(out.stdout)
 }

@@ -1,5 +1,7 @@
 //! Writes recorded vectors, or checks recorded ones against this program.
 
+use second::judge::judge_line;
+use second::random::{late_miss, Random};
 use second::vectors::*;
 use std::process::ExitCode;
 
@@ -8,7 +10,8 @@ vectors write FILE_IN FILE_OUT    write cases and answers for the writer
 vectors verdict FILE_IN FILE_OUT  write cases and answers for the verdict and the report
 vectors watch FILE_IN FILE_OUT    write cases and answers for the watch program
 vectors journal FILE_IN FILE_OUT  write cases and answers for the judge
-vectors check-read FILE_IN FILE_OUT, and so check-write, check-verdict, check-watch, check-journal
+vectors judge FILE_IN FILE_OUT    write an input of the judge program and its line
+vectors check-read FILE_IN FILE_OUT, and so check-write, check-verdict, check-watch, check-journal, check-judge
                                   answer the cases anew and compare";
 
 const SEED: u64 = 1;
@@ -32,11 +35,16 @@ fn main() -> ExitCode {
             let found = journal_cases(SEED);
             record(journal_stream(&found), journals, cases, answers)
         }
+        ["judge", cases, answers] => {
+            let input = late_miss(&mut Random::new(SEED), 4_000);
+            record(input, judged, cases, answers)
+        }
         ["check-read", cases, answers] => check(reads, cases, answers),
         ["check-write", cases, answers] => check(writes, cases, answers),
         ["check-verdict", cases, answers] => check(verdicts, cases, answers),
         ["check-watch", cases, answers] => check(watches, cases, answers),
         ["check-journal", cases, answers] => check(journals, cases, answers),
+        ["check-judge", cases, answers] => check(judged, cases, answers),
         _ => Err(String::from(USAGE)),
     };
     match done {
@@ -75,6 +83,12 @@ fn watches(stream: &[u8]) -> Option<(String, String)> {
 
 fn journals(stream: &[u8]) -> Option<(String, String)> {
     answer_journals(stream).map(|found| (journal_text(&found), journal_summary(&found)))
+}
+
+fn judged(input: &[u8]) -> Option<(String, String)> {
+    let line = judge_line(input);
+    let said = format!("the judge program says {}", line.trim_end());
+    Some((line, said))
 }
 
 fn record(stream: Vec<u8>, answer: Answers, cases: &str, answers: &str) -> Result<String, String> {

@@ -48,6 +48,24 @@ pub fn legal_rows(r: &mut Random, table: &Table, rows: usize) -> Vec<Vec<u8>> {
     rows_of(r, table, rows, usize::MAX)
 }
 
+/// A legal run of so many rows, or up to a miss, in which every task is
+/// released whenever it may be.
+pub fn busy_rows(r: &mut Random, table: &Table, rows: usize) -> Vec<Vec<u8>> {
+    let mut state = State::zeros(0, Phase::Running);
+    let mut out = Vec::new();
+    while out.len() < rows && state.phase == Phase::Running {
+        let ready = (0..usize::from(table.n)).filter(|i| state.tasks[*i].wait() == 0);
+        let set = ready.fold(0, |set, i| set | 1 << i);
+        let before = release(table, &state, set);
+        let chosen = choice(r, table, &before, true);
+        let mut row = Vec::new();
+        put_row(&mut row, set, &chosen);
+        out.push(row);
+        state = go_on(table, &before, set, &chosen).state;
+    }
+    out
+}
+
 /// Damage to one row, as a whole or in a field; or bytes behind the last.
 pub fn damage_rows(r: &mut Random, table: &Table, rows: &mut Vec<Vec<u8>>) {
     if rows.is_empty() || r.one_in(12) {
@@ -147,4 +165,70 @@ pub fn busy_table(r: &mut Random) -> Table {
         }
     }
     table
+}
+
+/// An input of the judge program: a table's length and bytes, then a journal
+/// of at most so many rows, which are legal, with damage to one, or cut short.
+pub fn judge_input(r: &mut Random, rows: usize) -> Vec<u8> {
+    let mut table = busy_table(r);
+    // Mostly one whose runs do not miss.
+    while !r.one_in(8) && crate::verdict::judge(&table).number != 0 {
+        table = busy_table(r);
+    }
+    let most = r.below(rows + 1);
+    let mut found = legal_rows(r, &table, most);
+    if r.coin() {
+        damage_rows(r, &table, &mut found);
+    }
+    let mut journal = found.concat();
+    if r.one_in(4) {
+        journal.truncate(r.below(journal.len() + 1));
+    }
+    let mut bytes = super::file(&table);
+    if r.one_in(12) {
+        super::damage(r, &mut bytes);
+    }
+    program_input(&bytes, &journal)
+}
+
+/// A table's length in two bytes, its bytes, and a journal.
+pub fn program_input(file: &[u8], journal: &[u8]) -> Vec<u8> {
+    let length = u16::try_from(file.len()).expect("a length of two bytes");
+    [&length.to_le_bytes()[..], file, journal].concat()
+}
+
+/// An input of the judge program with at least so many rows, whose last one
+/// misses: one task at a time is released and runs well, then all at once.
+pub fn late_miss(r: &mut Random, rows: usize) -> Vec<u8> {
+    loop {
+        let table = busy_table(r);
+        if table.m > 1 && table.n > 2 {
+            if let Some(journal) = missing_late(r, &table, rows) {
+                return program_input(&super::file(&table), &journal);
+            }
+        }
+    }
+}
+
+fn missing_late(r: &mut Random, table: &Table, rows: usize) -> Option<Vec<u8>> {
+    let mut state = State::zeros(0, Phase::Running);
+    let mut out = Vec::new();
+    for row in 0..rows + 100 {
+        let ready = (0..usize::from(table.n)).filter(|i| state.tasks[*i].wait() == 0);
+        let ready: Vec<usize> = ready.collect();
+        let idle = (state.tasks.iter()).all(|task| matches!(task, Job::Idle { .. }));
+        let set = match row < rows {
+            true if idle && !ready.is_empty() => 1 << r.pick(&ready),
+            true => 0,
+            false => ready.iter().fold(0, |set, i| set | 1 << i),
+        };
+        let before = release(table, &state, set);
+        let chosen = choice(r, table, &before, true);
+        put_row(&mut out, set, &chosen);
+        state = go_on(table, &before, set, &chosen).state;
+        if state.phase != Phase::Running {
+            return Some(out).filter(|_| row >= rows);
+        }
+    }
+    None
 }
