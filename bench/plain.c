@@ -1,4 +1,4 @@
-/* Job tables in plain C, for speed beside the proved functions. Written from document 01 alone. */
+/* Reading, writing, the verdict and the report in plain C: see plain.h. */
 #include "plain.h"
 #include <stdbool.h>
 #include <string.h>

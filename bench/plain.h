@@ -1,4 +1,5 @@
-/* Job tables in plain C, for speed beside the proved functions. Written from document 01 alone. */
+/* Job tables in plain C, for speed beside the proved functions. The rules are written from document 01; the layout of a table and a
+   state, and the room that a report takes, are those of include/milltundra.h, so that both sides get the same inputs. */
 #ifndef PLAIN_H
 #define PLAIN_H
 

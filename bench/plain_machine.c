@@ -1,4 +1,4 @@
-/* The machine in plain C. Written from document 01 alone. */
+/* The machine in plain C: see plain.h. */
 #include "plain.h"
 #include <stdbool.h>
 #include <string.h>

@@ -100,6 +100,8 @@ int main(void) {
     v = mt_verdict(a, 51);
     if (v.number != MT_SHORT || v.task != MT_NO_TASK || v.place != 48 || v.margin != 0)
         return failed("a file cut short is judged");
+    if (mt_quick(a, sizeof a) != 1 || mt_quick(one, sizeof one) != 0 || mt_quick(a, 51) != 0)
+        return failed("the quick answer is not yes exactly for table A");
     size_t length = sizeof text - 1;
     uint8_t report[MT_REPORT_MOST];
     memset(report, 0xA5, sizeof report);

@@ -22,11 +22,8 @@ enum {
     MT_UNUSED = 10  /* writing: an unused entry is not zero */
 };
 
-/* The verdict's numbers, besides 0 for accepted and those of reading. */
-enum {
-    MT_REFUSED = 20,    /* some margin is negative */
-    MT_LONG_CHAIN = 21  /* no margin is negative but some len exceeds its D; by a theorem this never comes */
-};
+/* The verdict's number, besides 0 for accepted and those of reading. */
+enum { MT_REFUSED = 20 };  /* some margin is negative */
 
 /* A tick's numbers, besides 0 and those of reading. */
 enum {
@@ -155,6 +152,10 @@ struct mt_write_answer mt_write(struct mt_table table, uint8_t *buffer, size_t c
 
 /* The verdict on a table file. */
 struct mt_verdict_answer mt_verdict(const uint8_t *bytes, size_t count);
+
+/* Whether the verdict on a table file is 0: 1 for yes, 0 for no. Stops at the first unreadable field, or at the first task whose due
+   work exceeds its allowance. */
+uint8_t mt_quick(const uint8_t *bytes, size_t count);
 
 /* The length of the report on a table file. Its text is written to the front of the buffer if it fits there, and the rest is left;
    nothing is written otherwise. */

@@ -47,6 +47,15 @@ fn table(r: &mut Random, n: usize, v: usize, density: usize) -> Table {
     table
 }
 
+/// An accepted table in which one task, or the last, has a deadline that it cannot keep; nothing that is due for the others changes.
+pub fn refused(mut table: Table, task: usize) -> Table {
+    let task = task.min(usize::from(table.n) - 1);
+    table.tasks[task].deadline = 1;
+    let answer = second::verdict::judge(&table);
+    assert_eq!((answer.number, usize::from(answer.task)), (20, task));
+    table
+}
+
 /// The same graphs with ticks that the verdict accepts, so that every task has to be looked at: costs up to 900, deadlines from half
 /// of the most ticks on.
 pub fn accepted(r: &mut Random, table: &Table) -> Table {

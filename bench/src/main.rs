@@ -3,7 +3,7 @@
 //! ours is the quicker.
 
 use bench::ticking::{Load, Runs};
-use bench::{accepted, plain, plain_check, sizes, Size};
+use bench::{accepted, plain, plain_check, refused, sizes, Size};
 use compare::face;
 use second::random::{busy_rows, file, Random};
 use second::table::LARGEST;
@@ -40,6 +40,13 @@ fn main() {
         ticking(size, Load::One);
         ticking(size, Load::All);
         journals(size);
+    }
+    println!(
+        "{:<58}{:>10}{:>10}{:>10}{:>16}{:>16}",
+        "the quick answer", "ours", "second", "verdict", "ours/second", "ours/verdict"
+    );
+    for size in &sizes {
+        answering(size);
     }
 }
 
@@ -96,6 +103,32 @@ fn judging(size: &Size) {
     };
     let sides: [Work; 3] = [Box::new(ours), Box::new(second), Box::new(plain)];
     measure(&format!("verdict {}", size.name), sides);
+}
+
+/// The quick answer beside the second program's and beside our own verdict: it is sooner where a task fails, and no later where none
+/// does.
+fn answering(size: &Size) {
+    let good = good_tables(size);
+    answering_on(size, "accepted", &good);
+    for (which, words) in [(0, "the first fails"), (usize::MAX, "the last fails")] {
+        let bad = good.iter().map(|table| refused(*table, which));
+        answering_on(size, words, &bad.collect::<Vec<_>>());
+    }
+}
+
+fn answering_on(size: &Size, words: &str, tables: &[Table]) {
+    let files: Vec<Vec<u8>> = tables.iter().map(file).collect();
+    let ours = |k: usize| {
+        black_box(face::quick(black_box(&files[k])));
+    };
+    let second = |k: usize| {
+        black_box(second::quick(black_box(&files[k])));
+    };
+    let whole = |k: usize| {
+        black_box(face::verdict(black_box(&files[k])));
+    };
+    let sides: [Work; 3] = [Box::new(ours), Box::new(second), Box::new(whole)];
+    measure(&format!("{}; {words}", size.name), sides);
 }
 
 /// The second program makes its text on the heap.

@@ -124,6 +124,7 @@ pub mod entry {
         pub fn mt_read(bytes: *const u8, count: usize) -> ReadAnswer;
         pub fn mt_write(table: Table, buffer: *mut u8, count: usize) -> WriteAnswer;
         pub fn mt_verdict(bytes: *const u8, count: usize) -> VerdictAnswer;
+        pub fn mt_quick(bytes: *const u8, count: usize) -> u8;
         pub fn mt_report(bytes: *const u8, count: usize, buffer: *mut u8, room: usize) -> u64;
         pub fn mt_open(bytes: *const u8, count: usize, clock: u32) -> OpenAnswer;
         pub fn mt_tick(bytes: *const u8, count: usize, state: State, releases: u16) -> TickAnswer;
@@ -149,6 +150,11 @@ pub fn write(table: Table, buffer: &mut [u8]) -> WriteAnswer {
 pub fn verdict(bytes: &[u8]) -> VerdictAnswer {
     // Safe: as for `read`.
     unsafe { entry::mt_verdict(bytes.as_ptr(), bytes.len()) }
+}
+
+pub fn quick(bytes: &[u8]) -> u8 {
+    // Safe: as for `read`.
+    unsafe { entry::mt_quick(bytes.as_ptr(), bytes.len()) }
 }
 
 pub fn report(bytes: &[u8], buffer: &mut [u8]) -> u64 {

@@ -5,6 +5,7 @@ pub mod face;
 pub mod journals;
 pub mod judging;
 pub mod opening;
+pub mod quickly;
 pub mod reading;
 pub mod reporting;
 pub mod running;
@@ -17,6 +18,7 @@ pub const COMPARISONS: [comparison::Comparison; 8] = [
     reading::READING,
     writing::WRITING,
     judging::JUDGING,
+    quickly::QUICKLY,
     reporting::REPORTING,
     opening::OPENING,
     ticking::TICKING,

@@ -10,6 +10,7 @@ pub mod graph;
 pub mod judge;
 pub mod legal;
 pub mod machine;
+pub mod quick;
 pub mod random;
 pub mod reader;
 pub mod report;
@@ -22,6 +23,7 @@ pub mod writer;
 
 pub use judge::{judge, Ruling};
 pub use machine::{open, tick, tick_in_place, Opened, State, Ticked};
+pub use quick::quick;
 pub use reader::{read, read_at, Core, Read};
 pub use report::report;
 pub use table::{Table, Task};

@@ -43,7 +43,6 @@ pub fn verdict(bytes: &[u8]) -> Verdict {
 pub fn judge(table: &Table) -> Verdict {
     let vols = vols(table);
     let mut negative = None;
-    let mut too_long = None;
     let mut least: Option<(u8, i64)> = None;
     for k in 0..table.n {
         let figures = figures_with(table, &vols, usize::from(k));
@@ -51,14 +50,11 @@ pub fn judge(table: &Table) -> Verdict {
         if figures.margin < 0 {
             negative = negative.or(Some(here));
         }
-        if figures.len > i64::from(table.tasks[usize::from(k)].deadline) {
-            too_long = too_long.or(Some(here));
-        }
         if least.is_none_or(|(_, margin)| figures.margin < margin) {
             least = Some(here);
         }
     }
-    let refused = negative.map(|at| (20, at)).or(too_long.map(|at| (21, at)));
+    let refused = negative.map(|at| (20, at));
     let accepted = least.map(|at| (0, at));
     let (number, (task, margin)) = refused.or(accepted).unwrap_or((0, (NO_TASK, 0)));
     Verdict {

@@ -2,7 +2,7 @@
 
 use second::random::*;
 use second::table::{ENTRIES, MOST_TICKS, ROW};
-use second::verdict::{figures, judge};
+use second::verdict::{figures, judge, Figures};
 use second::*;
 
 /// The largest sum along a chain that begins at a vertex, by descent.
@@ -33,7 +33,6 @@ fn agree(table: &Table) -> Verdict {
     for (k, row) in rows.iter().enumerate() {
         let f = figures(table, k);
         assert_eq!([f.vol, f.len, f.due, f.margin].map(i128::from), *row);
-        // Which is why nobody can see number 21.
         assert!(row[3] < 0 || row[1] <= i128::from(table.tasks[k].deadline));
     }
     let answer = verdict(&file(table));
@@ -80,6 +79,65 @@ fn tables_near_the_edge() {
     }
     assert!((700..=1_300).contains(&accepted), "{accepted}");
     assert!(zero > 200 && near > 1_500, "{zero} {near}");
+}
+
+/// One task of two vertices, joined or not, and one task beside it.
+fn pair(m: u8, first: [u32; 4], joined: bool, other: [u32; 2]) -> Table {
+    let mut table = Table {
+        m,
+        n: 2,
+        ..Table::ZERO
+    };
+    let [deadline, period, a, b] = first;
+    table.tasks[0].v = 2;
+    table.tasks[0].deadline = deadline;
+    table.tasks[0].period = period;
+    table.tasks[0].succ[0] = if joined { 2 } else { 0 };
+    table.costs[0] = a;
+    table.costs[1] = b;
+    let [time, cost] = other;
+    table.tasks[1].v = 1;
+    table.tasks[1].deadline = time;
+    table.tasks[1].period = time;
+    table.costs[ENTRIES] = cost;
+    table
+}
+
+/// Document 01's number 21 asked for this; M-106 took it out because it is nowhere.
+fn long_but_not_negative(table: &Table) -> bool {
+    let rows = (0..usize::from(table.n)).map(|k| (k, figures(table, k)));
+    let rows: Vec<_> = rows.collect();
+    let longer = |k: usize, f: &Figures| f.len > i64::from(table.tasks[k].deadline);
+    rows.iter().all(|(_, f)| f.margin >= 0) && rows.iter().any(|(k, f)| longer(*k, f))
+}
+
+#[test]
+fn no_table_is_too_long_without_a_negative_margin() {
+    let (mut tried, mut longer) = (0, 0);
+    for code in 0..8 * 5 * 3 * 5 * 5 * 2 * 4 * 4 {
+        let mut rest = code;
+        let mut digit = |base: u32| {
+            let low = rest % base;
+            rest /= base;
+            low
+        };
+        let m = digit(8) as u8 + 1;
+        let deadline = digit(5) + 1;
+        let first = [deadline, deadline + digit(3), digit(5) + 1, digit(5) + 1];
+        let joined = digit(2) == 1;
+        let table = pair(m, first, joined, [4 * digit(4) + 1, digit(4) + 1]);
+        assert!(!long_but_not_negative(&table), "{table:?}");
+        tried += 1;
+        longer += u32::from(figures(&table, 0).len > i64::from(deadline));
+    }
+    assert!(tried == 96_000 && longer > 20_000, "{tried} {longer}");
+    let r = &mut Random::new(34);
+    for _ in 0..3_000 {
+        let n = r.below(6) + 1;
+        let scale = r.pick(&[2, 20, 5_000, MOST_TICKS]);
+        let table = near_edge(r, n, 6, scale);
+        assert!(!long_but_not_negative(&table), "{table:?}");
+    }
 }
 
 #[test]

@@ -114,6 +114,19 @@ fn verdict(r: &mut Random, k: u64) -> Both {
     ]
 }
 
+/// Plain C has no quick answer: its whole verdict stands beside.
+fn quick(r: &mut Random, k: u64) -> Both {
+    let bytes = judged(r, k);
+    let (_answer, to) = room::<face::VerdictAnswer>();
+    let (from, count) = (bytes.as_ptr() as usize, bytes.len());
+    let ours = [from, count, 0, 0, 0, 0];
+    let theirs = [to, from, count, 0, 0, 0];
+    [
+        taken(face::entry::mt_quick as *const (), ours, ()),
+        taken(plain::entry::plain_verdict as *const (), theirs, ()),
+    ]
+}
+
 fn report(r: &mut Random, k: u64) -> Both {
     let bytes = judged(r, k);
     let mut buffer = [0u8; face::REPORT_MOST];
@@ -184,6 +197,7 @@ fn main() {
     line("mt_read", read, "");
     line("mt_write", write, &put(size_of::<face::Table>(), "table"));
     line("mt_verdict", verdict, "");
+    line("mt_quick", quick, "   (plain C: the whole verdict)");
     line("mt_report", report, "");
     line("mt_open", open, "");
     line("mt_tick", tick, &put(size_of::<face::State>(), "state"));

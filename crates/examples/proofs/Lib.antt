@@ -1,5 +1,6 @@
 -- The examples.
 pub mod Computed
+pub mod Lines
 -- Demand 3 is not empty.
 pub mod Tests
 pub mod Witness

@@ -2,8 +2,6 @@
 pub mod Length
 pub mod TypedAnswers
 pub mod Held
--- THE EXAMPLES: P9 to P12 as they are shown, computed.
-pub mod Computed
 -- THE CODE: laws that its proofs cite.
 pub mod Parted
 pub mod Lined

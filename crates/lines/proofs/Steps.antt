@@ -2,16 +2,14 @@
 use mathlib.Core.Path.{_≡_, ap, ap₂}
 use mathlib.Core.List.{List}
 use Prim.Native.Nat.{ℕ, _+_, _*_}
-use lib.ListN.{getD, take, drop}
+use lib.ListN.{getD}
 use lib.Seq.{getD-drop}
 use Rattle.machine.specs.declared.State.{State}
-use Rattle.machine.specs.declared.Answer.{Answer}
 use Rattle.machine.specs.declared.Opened.{Opened}
 use Rattle.machine.specs.declared.Ticked.{Ticked}
 use Rattle.machine.specs.States.{opening}
 use Rattle.machine.specs.Ticking.{tick}
 use Rattle.lines.specs.declared.Line.{Line}
-use Rattle.lines.specs.declared.Shown.{Shown}
 use Rattle.lines.specs.Lines.{openLine, tickLine, lineOf}
 use Rattle.lines.specs.Watching.{number2, number4, shownOpening, shownTick}
 

@@ -1,9 +1,7 @@
 -- The numbers of an answer that a function was handed are numbers of their types.
 use mathlib.Core.List.{List, [], _∷_, map}
-use mathlib.Core.Path.{_≡_, sym, _∙_}
-use Prim.Native.Nat.{ℕ, _^_, _<_}
-use native.Mathlib.Omega.{arith}
-use lib.ListN.{length, length-map}
+use mathlib.Core.Path.{sym, _∙_}
+use lib.ListN.{length-map}
 use mir.Val.{Val}
 use denote.Shadow.{shadow}
 use denote.Array.{each}

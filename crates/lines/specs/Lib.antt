@@ -2,4 +2,3 @@
 pub mod Lines
 pub mod Watching
 pub mod Rulings
-pub mod Examples

@@ -1,5 +1,4 @@
 // Parts of a line, into a lent buffer: words and numbers, tasks of a set, vertices that ran.
-ghost use mathlib.Core.Path.{_≡_};
 ghost use mathlib.Core.List.{[], _++_};
 ghost use Prim.Native.Nat.{_+_, _≤_, _<_};
 ghost use lib.Dec.{eqb};

@@ -61,13 +61,13 @@ fn available_in(a: Activity, succ: [u16; 16], v: usize, remaining: &[u32; 256], 
     }
 }
 
-// Each task's available vertices; what remains is lent, so that it is not copied.
-fn sets_in(t: Table, st: State, remaining: &[u32; 256]) -> [u16; 16]
-    requires { ⌜ st .remaining ≡ now remaining ⌝ }
+// Step 2: each task's available vertices. Only what is looked at is copied.
+pub fn available_sets(t: Table, st: State) -> [u16; 16]
     ensures { λ r. ⌜ r ≡ availableSets t st ⌝ }
 {
     let tasks = t.tasks;
     let states = st.tasks;
+    let left = st.remaining;
     let mut sets = [0u16; 16];
     for i in 0..16usize {
         let s = states[i];
@@ -75,16 +75,9 @@ fn sets_in(t: Table, st: State, remaining: &[u32; 256]) -> [u16; 16]
         let x = tasks[i];
         let succ = x.succ;
         let v = x.v as usize;
-        sets[i] = available_in(a, succ, v, remaining, i);
+        sets[i] = available_in(a, succ, v, &left, i);
     }
     sets
-}
-
-// Step 2: each task's available vertices.
-pub fn available_sets(t: Table, st: State) -> [u16; 16]
-    ensures { λ r. ⌜ r ≡ availableSets t st ⌝ }
-{
-    sets_in(t, st, &st.remaining)
 }
 
 // Each task's ticks left.
@@ -101,9 +94,9 @@ pub fn ticks_left(st: State) -> [u32; 16]
 }
 
 // The task that ranks first of those up to i, `best` being that of those before it.
-fn better(sets: [u16; 16], left: [u32; 16], best: usize, i: usize) -> usize
-    requires { ⌜ (i < 16) × RanksFirst i sets left best ⌝ }
-    ensures { λ r. ⌜ RanksFirst (i + 1) sets left r ⌝ }
+fn better(sets: &[u16; 16], left: &[u32; 16], best: usize, i: usize) -> usize
+    requires { ⌜ (i < 16) × RanksFirst i (now sets) (now left) best ⌝ }
+    ensures { λ r. ⌜ RanksFirst (i + 1) (now (sets .entry)) (now (left .entry)) r ⌝ }
 {
     if sets[i] == 0 {
         return best;
@@ -123,7 +116,7 @@ fn next_task(sets: [u16; 16], left: [u32; 16]) -> usize
 {
     let mut best: usize = 16;
     for i in 0..16usize {
-        best = better(sets, left, best, i);
+        best = better(&sets, &left, best, i);
     }
     best
 }
@@ -145,13 +138,13 @@ fn without(set: u16, u: usize) -> u16
 }
 
 // Steps 2 and 3: at most m times the vertex that ranks first of those that are left.
-pub(crate) fn choose(t: Table, st: State, remaining: &[u32; 256]) -> Chosen
-    requires { ⌜ GoodTable t × (st .remaining ≡ now remaining) ⌝ }
+pub(crate) fn choose(t: Table, st: State) -> Chosen
+    requires { ⌜ GoodTable t ⌝ }
     ensures { λ r. ⌜ (take (r .count) (r .keys) ≡ ownChoice t st) × (r .count ≤ 8) × (r .count ≡ length (ownChoice t st)) ⌝ }
 {
     let m = t.m as usize;
     let left = ticks_left(st);
-    let mut sets = sets_in(t, st, remaining);
+    let mut sets = available_sets(t, st);
     let mut keys = [0u8; 8];
     let mut count: usize = 0;
     while count < m {

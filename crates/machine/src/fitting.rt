@@ -47,19 +47,21 @@ fn task_fits(
     }
 }
 
-// Each task fits. Both rows are lent, so that neither is copied.
-fn tasks_fit(t: Table, st: State, costs: &[u32; 256], remaining: &[u32; 256]) -> bool
-    requires { ⌜ GoodTable t × (t .costs ≡ now costs) × (st .remaining ≡ now remaining) ⌝ }
+// Each task fits. Only what is looked at is copied.
+fn tasks_fit(t: Table, st: State) -> bool
+    requires { ⌜ GoodTable t ⌝ }
     ensures { λ r. ⌜ r ≡ all 16 (fitsTask t st) ⌝ }
 {
     let n = t.n as usize;
     let clock = st.clock;
     let tasks = t.tasks;
+    let costs = t.costs;
     let states = st.tasks;
+    let left = st.remaining;
     for i in 0..16usize {
         let a = tasks[i];
         let s = states[i];
-        if !task_fits(n, a, costs, clock, s, remaining, i) {
+        if !task_fits(n, a, &costs, clock, s, &left, i) {
             return false;
         }
     }
@@ -78,33 +80,33 @@ fn zero_in(s: TaskState, remaining: &[u32; 256], i: usize) -> bool
 }
 
 // Each task is one of zeros.
-fn all_zero(st: State, remaining: &[u32; 256]) -> bool
-    requires { ⌜ st .remaining ≡ now remaining ⌝ }
+fn all_zero(st: State) -> bool
     ensures { λ r. ⌜ r ≡ all 16 (zeroTaskIn st) ⌝ }
 {
     let states = st.tasks;
+    let left = st.remaining;
     for i in 0..16usize {
         let s = states[i];
-        if !zero_in(s, remaining, i) {
+        if !zero_in(s, &left, i) {
             return false;
         }
     }
     true
 }
 
-// Whether a state, any numbers in it, fits a table; their rows are lent.
-pub(crate) fn fits_state(t: Table, st: State, costs: &[u32; 256], remaining: &[u32; 256]) -> bool
-    requires { ⌜ GoodTable t × (t .costs ≡ now costs) × (st .remaining ≡ now remaining) ⌝ }
+// Whether a state, any numbers in it, fits a table.
+pub(crate) fn fits_state(t: Table, st: State) -> bool
+    requires { ⌜ GoodTable t ⌝ }
     ensures { λ r. ⌜ r ≡ fits t st ⌝ }
 {
     let phase = st.phase;
     match phase {
-        Phase::Running => tasks_fit(t, st, costs, remaining),
+        Phase::Running => tasks_fit(t, st),
         Phase::Stopped(at) => {
             if at >= t.n {
                 return false;
             }
-            all_zero(st, remaining)
+            all_zero(st)
         }
     }
 }

@@ -214,14 +214,14 @@ fn ends(s: TaskState, remaining: &[u32; 256], i: usize) -> bool
 }
 
 // The set of tasks that step 5 makes idle.
-pub(crate) fn finished_set(st: State, remaining: &[u32; 256]) -> u16
-    requires { ⌜ st .remaining ≡ now remaining ⌝ }
+pub(crate) fn finished_set(st: State) -> u16
     ensures { λ r. ⌜ r ≡ finished st ⌝ }
 {
     let states = st.tasks;
+    let left = st.remaining;
     let mut set: u16 = 0;
     for i in 0..16usize {
-        if ends(states[i], remaining, i) {
+        if ends(states[i], &left, i) {
             let member = power(i);
             set += member;
         }

@@ -110,7 +110,7 @@ pub fn advance_from(t: Table, st: State, named: u16, chosen: Chosen) -> Ticked
     ensures { λ r. ⌜ r ≡ advanceTo (listed chosen) (worked t st named (listed chosen)) ⌝ }
 {
     let after = steps::work(t, st, named, chosen);
-    let done = steps::finished_set(after, &after.remaining);
+    let done = steps::finished_set(after);
     let rest = steps::end_jobs(after, done);
     judge(chosen, done, rest)
 }
@@ -179,7 +179,7 @@ pub(crate) fn tick_on(t: Table, st: State, named: u16) -> Ticked
     requires { ⌜ GoodTable t ⌝ }
     ensures { λ r. ⌜ r ≡ tickOn ownChoice t st named ⌝ }
 {
-    if !fitting::fits_state(t, st, &t.costs, &st.remaining) {
+    if !fitting::fits_state(t, st) {
         return refuse(st, 30, 0, 255);
     }
     let p = st.phase;
@@ -195,6 +195,5 @@ pub(crate) fn tick_on(t: Table, st: State, named: u16) -> Ticked
         return refuse(st, 33, 0, early);
     }
     let begun = steps::release(t, st, named);
-    let chosen = choosing::choose(t, begun, &begun.remaining);
-    advance_from(t, begun, named, chosen)
+    advance_from(t, begun, named, choosing::choose(t, begun))
 }

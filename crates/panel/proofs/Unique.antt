@@ -19,6 +19,8 @@ use Rattle.panel.proofs.ticks.mt_tick.Kinds as mt-tick-kinds
 use Rattle.panel.proofs.ticks.mt_tick.Reads as mt-tick-reads
 use Rattle.panel.proofs.verdicts.mt_verdict.Kinds as mt-verdict-kinds
 use Rattle.panel.proofs.verdicts.mt_verdict.Reads as mt-verdict-reads
+use Rattle.panel.proofs.verdicts.mt_quick.Kinds as mt-quick-kinds
+use Rattle.panel.proofs.verdicts.mt_quick.Reads as mt-quick-reads
 use Rattle.panel.proofs.verdicts.mt_report.Kinds as mt-report-kinds
 use Rattle.panel.proofs.verdicts.mt_report.Reads as mt-report-reads
 use Rattle.panel.proofs.judging.mt_judge.Kinds as mt-judge-kinds
@@ -34,6 +36,9 @@ module _ (κs : Lfts 1) (args : Dens κs mt-write-kinds.ps) (s t : AtExit (ended
 
 pub mt-verdict-one : OneResult 1 mt-verdict-kinds.ps mt-verdict-kinds.r mt-verdict-reads.Post
 mt-verdict-one κs args x y s t = by-definition
+
+pub mt-quick-one : OneResult 1 mt-quick-kinds.ps mt-quick-kinds.r mt-quick-reads.Post
+mt-quick-one κs args x y s t = by-definition
 
 module _ (κs : Lfts 2) (args : Dens κs mt-report-kinds.ps) (s t : AtExit (endedOf 2 mt-report-kinds.ps mt-report-kinds.r) κs) where
   pub mt-report-one : (x y : ℕ) → mt-report-reads.Post κs args x s → mt-report-reads.Post κs args y t → (x ≡ y) × (now (s .1 .0) ≡ now (t .1 .0))

@@ -10,6 +10,7 @@ pub use tables::mt_read;
 pub use tables::mt_write;
 pub use ticks::mt_open;
 pub use ticks::mt_tick;
+pub use verdicts::mt_quick;
 pub use verdicts::mt_report;
 pub use verdicts::mt_verdict;
 

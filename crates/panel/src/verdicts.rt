@@ -1,6 +1,8 @@
 // The verdict on a file and its report from C.
 ghost use mathlib.Core.Path.{_≡_};
 ghost use lib.ListN.{length};
+ghost use Rattle.graph.specs.Words.{flag};
+ghost use Rattle.quick.specs.Quick.{quick};
 ghost use Rattle.verdict.specs.Report.{report, reportInto};
 ghost use Rattle.panel.specs.Answers.{verdictAnswer};
 use crate::VerdictAnswer;
@@ -17,6 +19,17 @@ pub extern "C" fn mt_verdict(bytes: &[u8]) -> VerdictAnswer
         place: v.place as u64,
         margin: v.margin,
     }
+}
+
+// Whether the verdict on a file is 0: 1 for yes, 0 for no.
+#[no_mangle]
+pub extern "C" fn mt_quick(bytes: &[u8]) -> u8
+    ensures { λ r. ⌜ r ≡ flag (quick (now (bytes .entry))) ⌝ }
+{
+    if quick::quick(bytes) {
+        return 1;
+    }
+    0
 }
 
 // The report on a file: its text at the front of the buffer if it fits there, and the rest as it was; its length.

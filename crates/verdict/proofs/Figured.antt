@@ -22,7 +22,9 @@ use Rattle.graph.proofs.Narrow.{longestOf-is}
 use Rattle.table.specs.declared.Table.{Table}
 use Rattle.table.specs.Memory.{vertices, D, T, succ, edgeIn, cost}
 use Rattle.table.specs.Good.{GoodTable}
+use Rattle.verdict.specs.declared.Measures.{Measures}
 use Rattle.verdict.specs.Verdicts.{vol, len, roundedUp, due, margin}
+use Rattle.verdict.specs.Measured.{Holds, OfGood}
 use Rattle.verdict.proofs.Amounts.{vol-high, len-vol, due-bound}
 
 -- ---- loops: one term more of a sum, and a row of sixteen whose first i numbers are those of f
@@ -96,6 +98,25 @@ module _ (t : Table) (good : GoodTable t) (k : ℕ) (b : k < t .n) where
     pub margin-found : (z : ℤ) → z ≡ pos (t .m * D t k) -ℤ pos ((t .m - 1) * x + y) → z ≡ margin t k
     unfolding margin
     margin-found z e = e ∙ ap₂ (λ (x y : ℕ). pos (t .m * D t k) -ℤ pos ((t .m - 1) * x + y)) l d
+
+  -- the same by a table's measures
+  module _ (x : Measures) (h : Holds t x) where
+    pub held-due-ready : (x .n ≤ 16) × (getD (x .deadlines) k 0 ≤ 1000000)
+        × ((i : ℕ) → i < x .n → (1 ≤ getD (x .periods) i 0) × (getD (x .periods) i 0 ≤ 1000000) × (getD (x .vols) i 0 ≤ 16000000))
+    held-due-ready = rw (h .n-is, h .D-is k b) (due-ready (x .periods) (x .vols) (h .T-is) (h .vol-is))
+
+    pub held-due : (y : ℕ) → y ≡ sum (x .n) (λ i. roundedUp (getD (x .deadlines) k 0) (getD (x .periods) i 0) * getD (x .vols) i 0) → y ≡ due t k
+    held-due y e = due-found (x .periods) (x .vols) (h .T-is) (h .vol-is) y (rw (h .n-is, h .D-is k b) at e)
+
+    module _ (y : ℕ) (d : y ≡ due t k) where
+      pub held-margin-ready : (1 ≤ x .m) × (x .m ≤ 8) × (getD (x .deadlines) k 0 ≤ 1000000) × (getD (x .lens) k 0 ≤ 16000000) × (y ≤ 240000016000000)
+      held-margin-ready = rw (h .m-is, h .D-is k b) (margin-ready (getD (x .lens) k 0) y (h .len-is k b) d)
+
+      pub held-margin : (z : ℤ) → z ≡ pos (x .m * getD (x .deadlines) k 0) -ℤ pos ((x .m - 1) * getD (x .lens) k 0 + y) → z ≡ margin t k
+      held-margin z e = margin-found (getD (x .lens) k 0) y (h .len-is k b) d z (rw (h .m-is, h .D-is k b) at e)
+
+pub few-held : (x : Measures) → OfGood x → x .n ≤ 16
+few-held x (t, g, h) = omega (arith, g .n-high, h .n-is)
 
 -- ---- what the code computes stays small, whatever the numbers are
 pub quotient-fits : (x y : ℕ) → x < 2 ^ 32 → Fits w64 (x / y)

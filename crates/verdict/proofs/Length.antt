@@ -3,13 +3,12 @@ use mathlib.Core.Path.{_≡_, refl, sym, subst}
 use mathlib.Core.Logic.{_⊎_, ⊎-elim}
 use mathlib.Core.Bool.{Bool, true, false}
 use mathlib.Core.List.{List, _++_}
-use Prim.Native.Nat.{ℕ, zero, suc, _+_, _*_, _-_, _^_, _≤_, _<_}
+use Prim.Native.Nat.{ℕ, _^_, _≤_, _<_}
 use native.Mathlib.Omega.{arith}
-use native.Mathlib.Nat.{mul-suc}
 use lib.Dec.{eqb, leb, leb→le}
 use lib.ListN.{length, length-append}
 use lib.IntN.{ℤ, pos, negsuc, natAbs}
-use Rattle.graph.specs.Words.{pick, joinFrom, inOrder}
+use Rattle.graph.specs.Words.{pick, inOrder}
 use Rattle.table.specs.declared.Table.{Table}
 use Rattle.table.specs.declared.Outcome.{Outcome}
 use Rattle.table.specs.declared.Outcome.the-variants.{Read, Short, Mark, Range, Ticks, Order, Edge, Cycle, Extra}
@@ -24,6 +23,7 @@ use Rattle.verdict.specs.Report.{headLine, taskLine, lastLine, badLine, 
 use Rattle.verdict.proofs.Amounts.{vol-high, len-vol, due-bound}
 use Rattle.verdict.proofs.Margins.{lowEnd, highEnd, InRange, margin-range}
 use Rattle.verdict.proofs.Says.{Refuses, Accepts, table-says}
+use Rattle.text.proofs.Putting.{joined-most}
 use Rattle.text.proofs.Decimal.{decimal-short, decimal-length, signed-short}
 
 -- a margin has at most fifteen digits
@@ -33,12 +33,6 @@ fifteen (pos n) r = omega (arith, leb→le n 8000000 (r .high .le))
 fifteen (negsuc n) r = omega (arith, leb→le n 240000119999999 (r .low .le))
 
 -- ---- the lines
-pub lines : (k i c : ℕ) (f : ℕ → List ℕ) → ((j : ℕ) → j < i + k → length (f j) ≤ c) → length (joinFrom k i f) ≤ c * k
-unfolding joinFrom
-lines zero i c f h = omega arith
-lines (suc k) i c f h =
-    simp length-append (omega (arith, h i (omega arith), lines k (suc i) c f (λ j b. h j (omega arith)), mul-suc c k))
-
 module _ (t : Table) (good : GoodTable t) where
   pub head-most : length (headLine t) ≤ 22
   unfolding headLine text newline
@@ -78,7 +72,7 @@ table-most t good =
     simp length-append (omega (
       arith,
       head-most t good,
-      lines (t .n) 0 78 (taskLine t) (λ j b. task-most t good j (omega arith)),
+      joined-most (t .n) 0 78 (taskLine t) (λ j b. task-most t good j (omega arith)),
       last (table-says t good),
       good .n-high,
     ))

@@ -1,5 +1,5 @@
 -- "The margin is a signed number, from minus 240,000,120,000,000 up to at most 8,000,000": proved for every good table, so for
--- every file that is read. No number 21: where no margin is negative, no len exceeds its D.
+-- every file that is read. Where a margin is not negative, len is within D.
 use mathlib.Core.Path.{_≡_, refl, sym, ap, _∙_}
 use mathlib.Core.Bool.{Bool, true, false, cond}
 use mathlib.Core.List.{List}

@@ -1,13 +1,12 @@
 -- The report on a file, from its lines: what reading gave, zeros behind the text, a caller's buffer.
-use mathlib.Core.Path.{_≡_, sym, ap, ap₂, _∙_}
-use mathlib.Core.List.{List, _++_}
-use Prim.Native.Nat.{ℕ, zero, suc, _-_, _≤_, _<_}
+use mathlib.Core.Path.{_≡_, ap, ap₂, _∙_}
+use mathlib.Core.List.{List}
+use Prim.Native.Nat.{ℕ, _-_, _≤_, _<_}
 use native.Mathlib.Omega.{arith}
-use native.Mathlib.Nat.{sub-zero}
 use lib.ListN.{length, take, drop, replicate, length-append, length-replicate}
 use lib.Seq.{take-append-seam}
 use borrow.Author.Tests.{le-leb, lt-leb}
-use Rattle.text.specs.Laid.{laid}
+use Rattle.text.specs.Laid.{laid, Put}
 use Rattle.text.proofs.Laying.{laid-front}
 use Rattle.table.specs.declared.Outcome.the-variants.{Read}
 use Rattle.table.specs.declared.Loaded.{Loaded}
@@ -15,9 +14,9 @@ use Rattle.table.specs.Reading.{read}
 use Rattle.table.proofs.PartLaws.{told-other, not-read}
 use Rattle.table.proofs.Prefix.{read-prefix}
 use Rattle.verdict.specs.declared.Report.{Report}
-use Rattle.verdict.specs.Report.{badLine, reportOn, reportRead, report, reported, reportInto, Put}
+use Rattle.verdict.specs.Report.{badLine, reportOn, reportRead, report, reported, reportInto}
 use Rattle.verdict.proofs.Length.{report-most}
-use Rattle.verdict.proofs.Lines.{put-same}
+use Rattle.text.proofs.Putting.{put-same, put-long, zeros-behind}
 use Rattle.verdict.proofs.Judged.{good-read}
 
 -- ---- on what reading gave
@@ -33,14 +32,6 @@ module _ (s : List ℕ) (l : Loaded) (h : l ≡ read s) where
 pub ruleset line-laws = (told-other, good-read, put-stop, put-got)
 
 -- ---- zeros behind the text
-drop-zeros : (n m : ℕ) → drop {A = ℕ} n (replicate m 0) ≡ replicate (m - n) 0
-drop-zeros zero m = ap (λ (k : ℕ). replicate {A = ℕ} k 0) (sym (sub-zero m))
-drop-zeros (suc n) zero = let e : 0 ≡ 0 - suc n = omega arith in ap (λ (k : ℕ). replicate {A = ℕ} k 0) e
-drop-zeros (suc n) (suc m) = let e : m - n ≡ suc m - suc n = omega arith in drop-zeros n m ∙ ap (λ (k : ℕ). replicate {A = ℕ} k 0) e
-
-zeros-behind : (m : ℕ) (l : List ℕ) → length l ≤ m → laid (replicate m 0) 0 l ≡ l ++ replicate (m - length l) 0
-zeros-behind m l h = laid-front (replicate m 0) l (omega (arith, length-replicate {A = ℕ} m 0)) ∙ ap (λ (x : List ℕ). l ++ x) (drop-zeros (length l) m)
-
 pub report-put : (s after : List ℕ) (next : ℕ) → Put (replicate 2048 0) 0 (report s) after next → (record { bytes = after; len = next }) ≡ reported s
 unfolding reported
 report-put s after next p =
@@ -62,10 +53,19 @@ module _ (s : List ℕ) (r : Report) (h : r ≡ reported s) where
   pub report-within : r .len ≤ 1312
   report-within = omega (arith, report-len, report-most s)
 
+-- ---- a report in a buffer that holds every one
+module _ (s buf after : List ℕ) (len : ℕ) (long : length buf ≡ 1312) (p : Put buf 0 (report s) after len) where
+  pub put-len : len ≡ length (report s)
+  put-len = omega (arith, p .behind)
+
+  pub put-within : len ≤ length after
+  put-within = omega (arith, put-len, put-long p, report-most s)
+
   -- its first bytes are the text
-  pub report-text : take (r .len) (r .bytes) ≡ report s
-  unfolding reported
-  report-text = rw h (take-append-seam (report s) (replicate (2048 - length (report s)) 0))
+  pub put-text : take len after ≡ report s
+  put-text =
+      ap₂ (λ (n : ℕ) (l : List ℕ). take n l) put-len (p .holds ∙ laid-front buf (report s) (omega (arith, report-most s)))
+      ∙ take-append-seam (report s) (drop (length (report s)) buf)
 
 -- ---- a caller's buffer
 pub into-short : (s buf : List ℕ) → length buf < length (report s) → buf ≡ reportInto s buf

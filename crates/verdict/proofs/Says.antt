@@ -1,27 +1,23 @@
--- WHAT THE VERDICT'S NUMBERS SAY of a file: reading's numbers 1 to 8, 20 and 0, each with its task and margin; nothing else, and no 21.
+-- WHAT THE VERDICT'S NUMBERS SAY of a file: reading's numbers 1 to 8, 20 and 0, each with its task and margin; nothing else.
 use mathlib.Core.Path.{_≡_, refl, sym, ap, subst, _∙_}
 use mathlib.Core.Logic.{_⊎_, inl, inr, ⊎-elim}
 use mathlib.Core.Bool.{Bool, true, false}
 use mathlib.Core.List.{List}
-use Prim.Native.Nat.{ℕ, suc, _+_, _*_, _-_, _≤_, _<_}
+use Prim.Native.Nat.{ℕ, suc, _-_, _≤_, _<_}
 use native.Mathlib.Omega.{arith}
-use lib.Dec.{ltb}
 use lib.IntN.{ℤ, pos}
 use lib.Signed.{ltZ, leZ, _≤ℤ_, _<ℤ_}
-use borrow.Author.Tests.{le-ltb}
 use Rattle.graph.specs.Words.{all, lowest}
 use Rattle.graph.proofs.Facts.{clash, all-of, all-at, all-not, lowest-is, lowestOr-none}
 use Rattle.table.specs.declared.Table.{Table}
 use Rattle.table.specs.declared.Outcome.{Outcome}
 use Rattle.table.specs.declared.Outcome.the-variants.{Read, Short, Mark, Range, Ticks, Order, Edge, Cycle, Extra}
-use Rattle.table.specs.Memory.{D}
 use Rattle.table.specs.Numbers.{number, place}
 use Rattle.table.specs.Reading.{whenRead, read}
 use Rattle.table.specs.Good.{GoodTable}
 use Rattle.table.proofs.Sound.{read-good}
 use Rattle.verdict.specs.declared.Verdict.{Verdict}
-use Rattle.verdict.specs.Verdicts.{len, due, margin, naming, verdictOn, unread, verdictRead, verdict}
-use Rattle.verdict.proofs.Margins.{not-negative, chain-fits}
+use Rattle.verdict.specs.Verdicts.{margin, naming, verdictOn, unread, verdictRead, verdict}
 use Rattle.verdict.proofs.Orders.{le-yes, lt-yes, not-lt, le-trans, smallest, Lowest, search-low, lowestOr-is}
 
 -- "a file that reading refuses gets that number and place, task 255 and margin 0"
@@ -54,9 +50,6 @@ module _ (t : Table) (good : GoodTable t) where
   unfoldable pub negative : ℕ → Bool
   negative k = ltZ (margin t k) (pos 0)
 
-  longer : ℕ → Bool
-  longer k = ltb (D t k) (len t k)
-
   unfoldable pub least : ℕ → Bool
   least k = all (t .n) (λ i. leZ (margin t k) (margin t i))
 
@@ -79,13 +72,6 @@ module _ (t : Table) (good : GoodTable t) where
     none-lower = λ j b. passing j (h .2 j b);
   }
 
-  -- ---- no 21
-  none-longer : ((k : ℕ) → k < t .n → negative k ≡ false) → (y : ℕ) → y < t .n → longer y ≡ false
-  unfolding margin longer
-  none-longer h y b =
-      let f = chain-fits t good y b (not-negative (t .m * D t y) ((t .m - 1) * len t y + due t y) (passing y (h y b))) in
-      le-ltb (D t y) (len t y) f
-
   -- ---- 0
   some-least : (y : ℕ) × Lowest (t .n) least y
   unfolding least
@@ -99,10 +85,9 @@ module _ (t : Table) (good : GoodTable t) where
           clash (all-of (t .n) (λ i. leZ (margin t (r .0)) (margin t i)) (λ i b. r .2 i (omega arith))) (h (r .0) (omega (arith, r .1)))
 
   pub none-negative : ((k : ℕ) → k < t .n → negative k ≡ false) → (y : ℕ) → Lowest (t .n) least y → verdictOn t ≡ naming 0 t y
-  unfolding verdictOn negative longer least
+  unfolding verdictOn negative least
   none-negative h y l =
       lowestOr-none (t .n) negative (naming 20 t) _ h
-      ∙ lowestOr-none (t .n) longer (naming 21 t) _ (none-longer h)
       ∙ ap (naming 0 t) (lowest-is 255 (t .n) least y (l .0) (l .1) (l .2))
 
   accepts : ((k : ℕ) → k < t .n → negative k ≡ false) → (y : ℕ) → Lowest (t .n) least y → Accepts t (naming 0 t y)
@@ -169,15 +154,6 @@ verdict-says s = ⊎-elim
         ⊎ ((verdictOn (read s .table) .number ≡ 0) × Accepts (read s .table) (verdictOn (read s .table)))
         → Says s (verdictOn (read s .table))
     judged e = ⊎-elim (λ q. refused e (q .0) (q .1)) (λ q. accepted e (q .0) (q .1))
-
--- NO TABLE YIELDS 21
-pub never-21 : (s : List ℕ) → verdict s .number ≡ 21 → ⊥
-never-21 s h = go (verdict s) (verdict-says s) h
-  where
-    go : (v : Verdict) → Says s v → v .number ≡ 21 → ⊥
-    go v (unreadable u) h = omega arith
-    go v (refused e n r) h = omega arith
-    go v (accepted e n r) h = omega arith
 
 -- what 20 says, and what 0 says
 pub says-20 : (s : List ℕ) → verdict s .number ≡ 20 → (read s .outcome ≡ Read) × Refuses (read s .table) (verdict s)

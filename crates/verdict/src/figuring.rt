@@ -5,9 +5,10 @@ ghost use lib.ListN.{getD};
 ghost use lib.IntN.{pos, _-ℤ_};
 ghost use Rattle.graph.specs.Words.{sum, row};
 ghost use Rattle.graph.specs.Graph.{longestOf};
-ghost use Rattle.table.specs.Memory.{T};
 ghost use Rattle.table.specs.Good.{GoodTable};
-ghost use Rattle.verdict.specs.Verdicts.{roundedUp, vol};
+ghost use Rattle.verdict.specs.Verdicts.{roundedUp};
+ghost use Rattle.verdict.specs.Measured.{Holds};
+use crate::Measures;
 use table::Table;
 
 // A number of 32 bits in 64.
@@ -31,35 +32,6 @@ fn vol_of(costs: &[u32; 256], i: usize, v: usize) -> u64
     total
 }
 
-// The vol of each task.
-pub(crate) fn volumes(t: Table) -> [u64; 16]
-    requires { ⌜ GoodTable t ⌝ }
-    ensures { λ r. ⌜ ((i : ℕ) → i < t .n → getD r i 0 ≡ vol t i) ⌝ }
-{
-    let mut vols = [0u64; 16];
-    let mut i: usize = 0;
-    while i < t.n as usize {
-        let v = t.tasks[i].v;
-        vols[i] = vol_of(&t.costs, i, v as usize);
-        i += 1;
-    }
-    vols
-}
-
-// The period of each task.
-pub(crate) fn periods(t: Table) -> [u32; 16]
-    requires { ⌜ GoodTable t ⌝ }
-    ensures { λ r. ⌜ ((i : ℕ) → i < t .n → getD r i 0 ≡ T t i) ⌝ }
-{
-    let mut times = [0u32; 16];
-    let mut i: usize = 0;
-    while i < t.n as usize {
-        times[i] = t.tasks[i].t;
-        i += 1;
-    }
-    times
-}
-
 // Task i's own sixteen costs.
 fn own_costs(costs: &[u32; 256], i: usize) -> [u32; 16]
     requires { ⌜ i < 16 ⌝ }
@@ -75,12 +47,42 @@ fn own_costs(costs: &[u32; 256], i: usize) -> [u32; 16]
 }
 
 // The longest chain of task i, whose successors are given.
-pub(crate) fn len_of(costs: &[u32; 256], i: usize, succ: [u16; 16]) -> u64
+fn len_of(costs: &[u32; 256], i: usize, succ: [u16; 16]) -> u64
     requires { ⌜ i < 16 ⌝ }
     ensures { λ r. ⌜ r ≡ longestOf succ (row 16 (λ u. getD (now (costs .entry)) (16 * i + u) 0)) ⌝ }
 {
     let own = own_costs(costs, i);
     graph::longest(succ, own)
+}
+
+// The measures of a good table.
+pub(crate) fn measures(t: Table) -> Measures
+    requires { ⌜ GoodTable t ⌝ }
+    ensures { λ r. ⌜ Holds t r ⌝ }
+{
+    let mut deadlines = [0u32; 16];
+    let mut periods = [0u32; 16];
+    let mut vols = [0u64; 16];
+    let mut lens = [0u64; 16];
+    let mut i: usize = 0;
+    while i < t.n as usize {
+        let x = t.tasks[i];
+        let v = x.v;
+        let succ = x.succ;
+        deadlines[i] = x.d;
+        periods[i] = x.t;
+        vols[i] = vol_of(&t.costs, i, v as usize);
+        lens[i] = len_of(&t.costs, i, succ);
+        i += 1;
+    }
+    Measures {
+        m: t.m,
+        n: t.n,
+        deadlines: deadlines,
+        periods: periods,
+        vols: vols,
+        lens: lens,
+    }
 }
 
 // d divided by t, rounded up: a division of 32 bits.

@@ -1,33 +1,31 @@
 // The verdict on a table and on a file, and the figures of a file's task: document 01, "The verdict".
 ghost use mathlib.Core.Path.{_≡_};
-ghost use Prim.Native.Nat.{ℕ, _<_};
-ghost use lib.ListN.{getD};
-ghost use Rattle.table.specs.Memory.{T};
+ghost use Rattle.table.specs.declared.Table.{Table};
 ghost use Rattle.table.specs.Good.{GoodTable};
-ghost use Rattle.verdict.specs.Verdicts.{vol, verdictOn, unread, verdict, figuresOn, noFigures, figures};
+ghost use Rattle.verdict.specs.Verdicts.{verdictOn, unread, verdict, noFigures, figures};
+ghost use Rattle.verdict.specs.Measured.{Holds, OfGood};
 use crate::Figures;
+use crate::Measures;
 use crate::Verdict;
 use crate::figuring;
 use table::Outcome;
-use table::Table;
 
-// The margins of a good table's tasks in turn: the first negative one, or the first that is the smallest.
-pub(crate) fn verdict_on(t: Table) -> Verdict
-    requires { ⌜ GoodTable t ⌝ }
-    ensures { λ r. ⌜ r ≡ verdictOn t ⌝ }
+// The margins of a good table's tasks in turn, by its measures: the first negative one, or the first that is the smallest.
+pub(crate) fn judged(x: Measures) -> Verdict
+    requires { ⌜ OfGood x ⌝ }
+    ensures { λ r. ⌜ ((t : Table) → GoodTable t → Holds t x → r ≡ verdictOn t) ⌝ }
 {
-    let vols = figuring::volumes(t);
-    let times = figuring::periods(t);
-    let n = t.n as usize;
+    let periods = x.periods;
+    let vols = x.vols;
+    let n = x.n as usize;
     let mut task: u8 = 255;
     let mut best: i64 = 8_000_001;
     let mut k: usize = 0;
     while k < n {
-        let x = t.tasks[k];
-        let succ = x.succ;
-        let len = figuring::len_of(&t.costs, k, succ);
-        let due = figuring::due_of(n, x.d, times, vols);
-        let z = figuring::margin_of(t.m as u64, x.d as u64, len, due);
+        let d = x.deadlines[k];
+        let len = x.lens[k];
+        let due = figuring::due_of(n, d, periods, vols);
+        let z = figuring::margin_of(x.m as u64, d as u64, len, due);
         if z < 0 {
             return Verdict {
                 number: 20,
@@ -73,28 +71,8 @@ pub fn verdict_of(bytes: &[u8]) -> Verdict
     let Outcome::Read = o else {
         return unread(o);
     };
-    let t = l.table;
-    verdict_on(t)
-}
-
-// The figures of a good table's task k, by the periods and the vols of all.
-pub(crate) fn figures_on(t: Table, times: [u32; 16], vols: [u64; 16], k: usize) -> Figures
-    requires { ⌜ GoodTable t × (k < t .n) × ((i : ℕ) → i < t .n → getD times i 0 ≡ T t i) × ((i : ℕ) → i < t .n → getD vols i 0 ≡ vol t i) ⌝ }
-    ensures { λ r. ⌜ r ≡ figuresOn t k ⌝ }
-{
-    let x = t.tasks[k];
-    let succ = x.succ;
-    let len = figuring::len_of(&t.costs, k, succ);
-    let due = figuring::due_of(t.n as usize, x.d, times, vols);
-    let margin = figuring::margin_of(t.m as u64, x.d as u64, len, due);
-    let vol = vols[k];
-    Figures {
-        found: true,
-        vol: vol,
-        len: len,
-        due: due,
-        margin: margin,
-    }
+    let x = figuring::measures(l.table);
+    judged(x)
 }
 
 // None.
@@ -119,11 +97,21 @@ pub fn figures_of(bytes: &[u8], task: u8) -> Figures
     let Outcome::Read = o else {
         return no_figures();
     };
-    let t = l.table;
-    if t.n <= task {
+    let x = figuring::measures(l.table);
+    if x.n <= task {
         return no_figures();
     }
-    let vols = figuring::volumes(t);
-    let times = figuring::periods(t);
-    figures_on(t, times, vols, task as usize)
+    let k = task as usize;
+    let d = x.deadlines[k];
+    let vol = x.vols[k];
+    let len = x.lens[k];
+    let due = figuring::due_of(x.n as usize, d, x.periods, x.vols);
+    let margin = figuring::margin_of(x.m as u64, d as u64, len, due);
+    Figures {
+        found: true,
+        vol: vol,
+        len: len,
+        due: due,
+        margin: margin,
+    }
 }

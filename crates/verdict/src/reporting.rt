@@ -3,19 +3,22 @@ ghost use mathlib.Core.Path.{_≡_};
 ghost use mathlib.Core.List.{_++_};
 ghost use Prim.Native.Nat.{ℕ, _+_, _≤_, _<_};
 ghost use lib.Dec.{eqb};
-ghost use lib.ListN.{length, getD};
+ghost use lib.ListN.{length};
 ghost use Rattle.graph.specs.Words.{pick, inOrder};
 ghost use Rattle.text.specs.Text.{text, newline, decimal, signed};
-ghost use Rattle.table.specs.Memory.{T};
+ghost use Rattle.text.specs.Laid.{Put};
+ghost use Rattle.table.specs.declared.Table.{Table};
 ghost use Rattle.table.specs.Good.{GoodTable};
-ghost use Rattle.verdict.specs.Verdicts.{vol};
-ghost use Rattle.verdict.specs.Report.{Put, headLine, taskLine, lastLine, badLine, reportOn, report, reported, reportInto};
+ghost use Rattle.verdict.specs.Verdicts.{figuresOn};
+ghost use Rattle.verdict.specs.Measured.{Holds, OfGood};
+ghost use Rattle.verdict.specs.Report.{taskLine, lastLine, badLine, reportOn, report, reported, reportInto};
+use crate::Figures;
+use crate::Measures;
 use crate::Report;
 use crate::Verdict;
 use crate::figuring;
 use crate::judging;
 use table::Outcome;
-use table::Table;
 
 // Some words and a number; the place after them.
 fn labelled(out: &mut [u8], at: usize, words: &[u8], x: u64) -> usize
@@ -48,27 +51,19 @@ fn with_margin(out: &mut [u8], at: usize, z: i64) -> usize
 }
 
 // What a table says first: its processors and its tasks.
-fn head_line(out: &mut [u8], t: Table) -> usize
-    ensures { λ r. ⌜ Put (now (out .entry)) 0 (headLine t) (now (out .exit)) r ⌝ }
+fn head_line(out: &mut [u8], m: u8, n: u8) -> usize
+    ensures { λ r. ⌜ Put (now (out .entry)) 0 (text "processors " ++ decimal m ++ text " tasks " ++ decimal n ++ newline) (now (out .exit)) r ⌝ }
 {
-    let p = labelled(&mut *out, 0, b"processors ", t.m as u64);
-    let q = labelled(&mut *out, p, b" tasks ", t.n as u64);
+    let p = labelled(&mut *out, 0, b"processors ", m as u64);
+    let q = labelled(&mut *out, p, b" tasks ", n as u64);
     ended(&mut *out, q)
 }
 
-// A line of a good table's task k, by the periods and the vols of all.
-fn task_line(
-    out: &mut [u8],
-    at: usize,
-    t: Table,
-    times: [u32; 16],
-    vols: [u64; 16],
-    k: usize,
-) -> usize
-    requires { ⌜ (at ≤ 1312) × GoodTable t × (k < t .n) × ((i : ℕ) → i < t .n → getD times i 0 ≡ T t i) × ((i : ℕ) → i < t .n → getD vols i 0 ≡ vol t i) ⌝ }
-    ensures { λ r. ⌜ Put (now (out .entry)) at (taskLine t k) (now (out .exit)) r ⌝ }
+// A line of task k's figures.
+fn task_line(out: &mut [u8], at: usize, k: usize, f: Figures) -> usize
+    requires { ⌜ at ≤ 1312 ⌝ }
+    ensures { λ r. ⌜ ((t : Table) → f ≡ figuresOn t k → Put (now (out .entry)) at (taskLine t k) (now (out .exit)) r) ⌝ }
 {
-    let f = judging::figures_on(t, times, vols, k);
     let a = labelled(&mut *out, at, b"task ", k as u64);
     let b = labelled(&mut *out, a, b" vol ", f.vol);
     let c = labelled(&mut *out, b, b" len ", f.len);
@@ -76,18 +71,30 @@ fn task_line(
     with_margin(&mut *out, d, f.margin)
 }
 
-// The lines of its tasks.
-fn task_lines(out: &mut [u8], at: usize, t: Table) -> usize
-    requires { ⌜ (at ≤ 22) × GoodTable t ⌝ }
-    ensures { λ r. ⌜ Put (now (out .entry)) at (inOrder (t .n) (taskLine t)) (now (out .exit)) r ⌝ }
+// The lines of a good table's tasks, by its measures.
+fn task_lines(out: &mut [u8], at: usize, x: Measures) -> usize
+    requires { ⌜ OfGood x × (at ≤ 22) ⌝ }
+    ensures { λ r. ⌜ ((t : Table) → GoodTable t → Holds t x → Put (now (out .entry)) at (inOrder (t .n) (taskLine t)) (now (out .exit)) r) ⌝ }
 {
-    let vols = figuring::volumes(t);
-    let times = figuring::periods(t);
-    let n = t.n as usize;
+    let periods = x.periods;
+    let vols = x.vols;
+    let n = x.n as usize;
     let mut p = at;
     let mut k: usize = 0;
     while k < n {
-        p = task_line(&mut *out, p, t, times, vols, k);
+        let d = x.deadlines[k];
+        let vol = vols[k];
+        let len = x.lens[k];
+        let due = figuring::due_of(n, d, periods, vols);
+        let margin = figuring::margin_of(x.m as u64, d as u64, len, due);
+        let f = Figures {
+            found: true,
+            vol: vol,
+            len: len,
+            due: due,
+            margin: margin,
+        };
+        p = task_line(&mut *out, p, k, f);
         k += 1;
     }
     p
@@ -126,14 +133,14 @@ fn bad_line(out: &mut [u8], o: Outcome) -> usize
     ended(&mut *out, q)
 }
 
-// The lines of a good table.
-fn table_lines(out: &mut [u8], t: Table) -> usize
-    requires { ⌜ GoodTable t ⌝ }
-    ensures { λ r. ⌜ Put (now (out .entry)) 0 (reportOn t) (now (out .exit)) r ⌝ }
+// The lines of a good table, by its measures.
+fn table_lines(out: &mut [u8], x: Measures) -> usize
+    requires { ⌜ OfGood x ⌝ }
+    ensures { λ r. ⌜ ((t : Table) → GoodTable t → Holds t x → Put (now (out .entry)) 0 (reportOn t) (now (out .exit)) r) ⌝ }
 {
-    let p = head_line(&mut *out, t);
-    let q = task_lines(&mut *out, p, t);
-    let v = judging::verdict_on(t);
+    let p = head_line(&mut *out, x.m, x.n);
+    let q = task_lines(&mut *out, p, x);
+    let v = judging::judged(x);
     last_line(&mut *out, q, v)
 }
 
@@ -146,8 +153,8 @@ fn lines_of(bytes: &[u8], out: &mut [u8]) -> usize
     let Outcome::Read = o else {
         return bad_line(&mut *out, o);
     };
-    let t = l.table;
-    table_lines(&mut *out, t)
+    let x = figuring::measures(l.table);
+    table_lines(&mut *out, x)
 }
 
 // The report on a file: its text, and zeros behind it.
@@ -166,12 +173,11 @@ pub fn report_of(bytes: &[u8]) -> Report
 pub fn report_into(bytes: &[u8], out: &mut [u8]) -> usize
     ensures { λ r. ⌜ (r ≡ length (report (now (bytes .entry)))) × (now (out .exit) ≡ reportInto (now (bytes .entry)) (now (out .entry))) ⌝ }
 {
-    let r = report_of(bytes);
-    let len = r.len;
+    let mut words = [0u8; 1312];
+    let len = lines_of(bytes, &mut words);
     if out.len() < len {
         return len;
     }
-    let words = r.bytes;
     text::put_bytes(&mut *out, 0, &words[..len]);
     len
 }

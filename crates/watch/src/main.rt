@@ -14,7 +14,7 @@ struct Next {
     state: State,
 }
 
-// Room for a table: of a longer one the first 5,061 bytes give the same lines (proofs/Held.antt of the crate lines).
+// Room for a table: of a longer one the first 5,061 bytes give the same lines (`run-prefix`, the crate lines).
 fn room() -> [u8; 5061]
     ensures { λ r. ⌜ 5061 ≡ length r ⌝ }
 {

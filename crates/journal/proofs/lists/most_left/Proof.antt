@@ -1,14 +1,18 @@
 use mathlib.Core.Path.{_≡_, refl, sym, ap, _∙_}
-use Prim.Native.Nat.{ℕ, _-_, _≤_, max}
+use Prim.Native.Nat.{ℕ, _+_, _-_, _≤_, max}
+use native.Mathlib.Numerals.{add-one}
 use native.Mathlib.Omega.{arith}
 use borrow.Author.Needs.{needs}
 use lib.ListN.{getD}
 use Rattle.graph.specs.Words.{largest}
-use Rattle.graph.proofs.Facts.{largest-next}
 use Rattle.journal.specs.Rows.{rowCount, rowTask, rowEnd}
 use Rattle.journal.specs.Listing.{AreVertices}
 use Rattle.journal.proofs.lists.most_left.Statement.{statement}
 use Rattle.journal.proofs.lists.most_left.Tie as tie
+
+largest-next : (n : ℕ) (f : ℕ → ℕ) → largest (n + 1) f ≡ max (largest n f) (f n)
+unfolding largest
+largest-next n f = ap (λ (k : ℕ). largest k f) (add-one n)
 
 abbrev Inv-loop : tie.InvT-loop
 Inv-loop bytes at ticks count most₀ j₀ most j = (j ≤ count) × (most ≡ largest j (λ k. getD ticks (rowTask bytes at k) 0))

@@ -14,10 +14,10 @@ use Rattle.machine.proofs.choosing.choose.Statement.{statement}
 use Rattle.machine.proofs.choosing.choose.Tie as tie
 
 abbrev Inv-loop : tie.InvT-loop
-Inv-loop remaining m left sets₀ keys₀ count₀ sets keys count = (count ≤ m) × PickedFrom left sets₀ sets keys count
+Inv-loop m left sets₀ keys₀ count₀ sets keys count = (count ≤ m) × PickedFrom left sets₀ sets keys count
 
 abbrev μ-loop : tie.MeasureT-loop
-μ-loop remaining m left sets₀ keys₀ count₀ sets keys count = m - count
+μ-loop m left sets₀ keys₀ count₀ sets keys count = m - count
 
 cast-m : tie.Need-cast-m Inv-loop μ-loop
 cast-m c = search needs
@@ -25,13 +25,13 @@ cast-m c = search needs
 ticks-left-requires : tie.Need-ticks-left-requires Inv-loop μ-loop
 ticks-left-requires c κs = search needs
 
-sets-in-requires : tie.Need-sets-in-requires Inv-loop μ-loop
-sets-in-requires c κs = search needs
+available-sets-requires : tie.Need-available-sets-requires Inv-loop μ-loop
+available-sets-requires c κs = search needs
 
 loop-holds : tie.Need-loop-holds Inv-loop μ-loop
 loop-holds c =
-    let n : length (c .sets-in .result) ≡ 16 = search needs in
-    (omega arith, λ st ranking o l h. none-picked st ranking (c .sets-in .result) _ n refl h)
+    let n : length (c .available-sets .result) ≡ 16 = search needs in
+    (omega arith, λ st ranking o l h. none-picked st ranking (c .available-sets .result) _ n refl h)
 
 next-task-requires : tie.Need-next-task-requires Inv-loop μ-loop
 next-task-requires c κs = search needs
@@ -40,12 +40,12 @@ returns : tie.Need-returns Inv-loop μ-loop
 returns c =
     let s = c .before .before .before .before .before .before .before in
     let l = c .before .before .before .loop in
-    let a = c .before .before .before .before .sets-in in
+    let a = c .before .before .before .before .available-sets in
     let n : length (a .result) ≡ 16 = search needs in
     let r = all-chosen (s .args .t) (s .args .st) (c .before .before .before .before .before .ticks-left .result) (a .result) n
     (λ j b. ap (λ (z : List ℕ). getD z j 0) (c .before .before .before .before .before .ticks-left .ensures) ∙ row-at 16 (left (s .args .st)) j 0 b) (λ j b. ap (λ (z : List ℕ). inSets z j) (a .ensures) ∙ in-available (s .args .t) (s .args .st) j b) (l .sets) (l .keys) (l .count) (l .inv .1) (l .inv .0)
     (c .before .next-task .ensures .none (c .if1 .taken)) in
-    (r .0, omega (arith, s .pre .0 .m-high), r .1)
+    (r .0, omega (arith, s .pre .m-high), r .1)
 
 mul-first-of : tie.Need-mul-first-of Inv-loop μ-loop
 mul-first-of c = omega (arith, c .before .next-task .ensures .task (c .if1 .left))
@@ -66,7 +66,7 @@ cast-keys : tie.Need-cast-keys Inv-loop μ-loop
 cast-keys c = omega (arith, c .before .before .next-task .ensures .task (c .before .if1 .left), c .first-of .ensures .0)
 
 array-write-keys : tie.Need-array-write-keys Inv-loop μ-loop
-array-write-keys c = omega (arith, c .before .before .before .before .before .before .before .before .pre .0 .m-high)
+array-write-keys c = omega (arith, c .before .before .before .before .before .before .before .before .pre .m-high)
 
 mul-without : tie.Need-mul-without Inv-loop μ-loop
 mul-without c = omega (arith, c .before .before .next-task .ensures .task (c .before .if1 .left))
@@ -84,7 +84,7 @@ array-write-sets : tie.Need-array-write-sets Inv-loop μ-loop
 array-write-sets c = omega (arith, c .before .before .before .next-task .ensures .task (c .before .before .if1 .left))
 
 add-count : tie.Need-add-count Inv-loop μ-loop
-add-count c = omega (arith, c .before .before .before .before .before .before .before .before .before .pre .0 .m-high)
+add-count c = omega (arith, c .before .before .before .before .before .before .before .before .before .pre .m-high)
 
 loop-less : tie.Need-loop-less Inv-loop μ-loop
 loop-less c = search needs
@@ -97,18 +97,18 @@ loop-again c =
     let u = c .before .first-of in (
       omega arith,
       λ st ranking o t h. one-picked st ranking o (l .sets) (l .keys) _ (l .count) (i .result) (u .result) (c .without .result) (l .inv .1 st ranking o t h)
-          (omega (arith, s .pre .0 .m-high)) t (i .ensures) (c .before .before .if1 .left) (u .ensures .0) (u .ensures .1) (u .ensures .2) (c .without .ensures),
+          (omega (arith, s .pre .m-high)) t (i .ensures) (c .before .before .if1 .left) (u .ensures .0) (u .ensures .1) (u .ensures .2) (c .without .ensures),
     )
 
 returns-2 : tie.Need-returns-2 Inv-loop μ-loop
 returns-2 c =
     let s = c .before .before .before .before .before in
     let l = c .before .loop in
-    let a = c .before .before .sets-in in
+    let a = c .before .before .available-sets in
     let k = c .before .before .before .ticks-left in
     let n : length (a .result) ≡ 16 = search needs in
     let r = m-chosen (s .args .t) (s .args .st) (k .result) (a .result) n (λ j b. ap (λ (z : List ℕ). getD z j 0) (k .ensures) ∙ row-at 16 (left (s .args .st)) j 0 b) (λ j b. ap (λ (z : List ℕ). inSets z j) (a .ensures) ∙ in-available (s .args .t) (s .args .st) j b) (l .sets) (l .keys) (l .count) (l .inv .1) (omega (arith, l .inv .0)) in
-    (r .0, omega (arith, s .pre .0 .m-high), r .1)
+    (r .0, omega (arith, s .pre .m-high), r .1)
 
 pub choose-spec : {M : Type 1} → statement M
 choose-spec =
@@ -118,7 +118,7 @@ choose-spec =
     μ-loop
     cast-m
     ticks-left-requires
-    sets-in-requires
+    available-sets-requires
     loop-holds
     next-task-requires
     returns

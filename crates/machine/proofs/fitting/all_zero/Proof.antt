@@ -3,7 +3,6 @@ use mathlib.Core.Path.{_≡_, refl, sym, _∙_}
 use mathlib.Core.Bool.{true}
 use Prim.Native.Nat.{_-_, _≤_}
 use native.Mathlib.Omega.{arith}
-use denote.Ref.{now}
 use borrow.Author.Needs.{needs}
 use borrow.Author.Tests.{not-true, not-false}
 use Rattle.graph.specs.Words.{all}
@@ -14,10 +13,10 @@ use Rattle.machine.proofs.fitting.all_zero.Statement.{statement}
 use Rattle.machine.proofs.fitting.all_zero.Tie as tie
 
 abbrev Inv-loop : tie.InvT-loop
-Inv-loop remaining states i₀ i = (i ≤ 16) × (all i (zeroAt states remaining) ≡ true)
+Inv-loop states left i₀ i = (i ≤ 16) × (all i (zeroAt states left) ≡ true)
 
 abbrev μ-loop : tie.MeasureT-loop
-μ-loop remaining states i₀ i = 16 - i
+μ-loop states left i₀ i = 16 - i
 
 loop-holds : tie.Need-loop-holds Inv-loop μ-loop
 unfolding all
@@ -35,9 +34,9 @@ zero-in-requires c κs = search needs
 returns : tie.Need-returns Inv-loop μ-loop
 unfolding idle
 returns c =
-    let l = c .before .before .before .before .loop in
-    let s = c .before .before .before .before .before .before in
-    all-off 16 _ (l .i) (omega arith) (sym (c .before .zero-in .ensures) ∙ not-true _ (c .if1 .taken)) ∙ zeros-same (s .args .st) _ (s .pre)
+    let l = c .before .before .before .before .before .loop in
+    let s = c .before .before .before .before .before .before .before .before in
+    all-off 16 _ (l .i) (omega arith) (sym (c .before .zero-in .ensures) ∙ not-true _ (c .if1 .taken)) ∙ zeros-same (s .args .st) _ refl
 
 add-i : tie.Need-add-i Inv-loop μ-loop
 add-i c = search needs
@@ -48,13 +47,13 @@ loop-less c = search needs
 loop-again : tie.Need-loop-again Inv-loop μ-loop
 unfolding idle
 loop-again c =
-    let l = c .before .before .before .before .loop in
+    let l = c .before .before .before .before .before .loop in
     (omega arith, all-more _ _ (l .inv .1) (sym (c .before .zero-in .ensures) ∙ not-false _ (c .if1 .left)))
 
 returns-2 : tie.Need-returns-2 Inv-loop μ-loop
 returns-2 c =
-    let s = c .before .before .before in
-    all-done 16 _ (c .before .loop .i) (omega arith) (c .before .loop .inv .1) ∙ zeros-same (s .args .st) _ (s .pre)
+    let s = c .before .before .before .before in
+    all-done 16 _ (c .before .loop .i) (omega arith) (c .before .loop .inv .1) ∙ zeros-same (s .args .st) _ refl
 
 pub all-zero-spec : {M : Type 1} → statement M
 all-zero-spec =

@@ -3,7 +3,6 @@ use mathlib.Core.Path.{_≡_, refl, sym, _∙_}
 use mathlib.Core.Bool.{true}
 use Prim.Native.Nat.{_-_, _≤_}
 use native.Mathlib.Omega.{arith}
-use denote.Ref.{now}
 use borrow.Author.Needs.{needs}
 use borrow.Author.Tests.{not-true, not-false}
 use Rattle.graph.specs.Words.{all}
@@ -15,10 +14,10 @@ use Rattle.machine.proofs.fitting.tasks_fit.Statement.{statement}
 use Rattle.machine.proofs.fitting.tasks_fit.Tie as tie
 
 abbrev Inv-loop : tie.InvT-loop
-Inv-loop costs remaining n clock tasks states i₀ i = (i ≤ 16) × (all i (fitsAt n tasks costs clock states remaining) ≡ true)
+Inv-loop n clock tasks costs states left i₀ i = (i ≤ 16) × (all i (fitsAt n tasks costs clock states left) ≡ true)
 
 abbrev μ-loop : tie.MeasureT-loop
-μ-loop costs remaining n clock tasks states i₀ i = 16 - i
+μ-loop n clock tasks costs states left i₀ i = 16 - i
 
 cast-n : tie.Need-cast-n Inv-loop μ-loop
 cast-n c = search needs
@@ -45,10 +44,10 @@ task-fits-requires c κs = search needs
 returns : tie.Need-returns Inv-loop μ-loop
 unfolding noTask idle
 returns c =
-    let l = c .before .before .before .before .before .loop in
-    let s = c .before .before .before .before .before .before .before .before .before in
+    let l = c .before .before .before .before .before .before .before .loop in
+    let s = c .before .before .before .before .before .before .before .before .before .before .before .before .before in
     all-off 16 _ (l .i) (omega arith) (sym (c .before .task-fits .ensures) ∙ not-true _ (c .if1 .taken))
-    ∙ fits-same (s .args .t) (s .args .st) (s .pre .0) _ _ (s .pre .1) (s .pre .2)
+    ∙ fits-same (s .args .t) (s .args .st) (s .pre) _ _ refl refl
 
 add-i : tie.Need-add-i Inv-loop μ-loop
 add-i c = search needs
@@ -59,14 +58,14 @@ loop-less c = search needs
 loop-again : tie.Need-loop-again Inv-loop μ-loop
 unfolding noTask idle
 loop-again c =
-    let l = c .before .before .before .before .before .loop in
+    let l = c .before .before .before .before .before .before .before .loop in
     (omega arith, all-more _ _ (l .inv .1) (sym (c .before .task-fits .ensures) ∙ not-false _ (c .if1 .left)))
 
 returns-2 : tie.Need-returns-2 Inv-loop μ-loop
 returns-2 c =
-    let s = c .before .before .before .before .before in
+    let s = c .before .before .before .before .before .before .before in
     all-done 16 _ (c .before .loop .i) (omega arith) (c .before .loop .inv .1)
-    ∙ fits-same (s .args .t) (s .args .st) (s .pre .0) _ _ (s .pre .1) (s .pre .2)
+    ∙ fits-same (s .args .t) (s .args .st) (s .pre) _ _ refl refl
 
 pub tasks-fit-spec : {M : Type 1} → statement M
 tasks-fit-spec =

@@ -2,7 +2,6 @@ use mathlib.Core.Path.{_≡_, refl, sym, ap, ap₂, _∙_}
 use mathlib.Core.Logic.{⊎-elim}
 use Prim.Native.Nat.{ℕ, _+_, _-_, _≤_}
 use native.Mathlib.Omega.{arith}
-use denote.Ref.{now}
 use borrow.Author.Needs.{needs}
 use Rattle.graph.specs.Words.{sum, setOf}
 use Rattle.machine.specs.States.{idle, activity, live, remaining}
@@ -13,10 +12,10 @@ use Rattle.machine.proofs.steps.finished_set.Statement.{statement}
 use Rattle.machine.proofs.steps.finished_set.Tie as tie
 
 abbrev Inv-loop : tie.InvT-loop
-Inv-loop remaining states set₀ i₀ set i = (i ≤ 16) × (set ≡ setOf i (finishes (stateWith 0 states remaining)))
+Inv-loop states left set₀ i₀ set i = (i ≤ 16) × (set ≡ setOf i (finishes (stateWith 0 states left)))
 
 abbrev μ-loop : tie.MeasureT-loop
-μ-loop remaining states set₀ i₀ set i = 16 - i
+μ-loop states left set₀ i₀ set i = 16 - i
 
 loop-holds : tie.Need-loop-holds Inv-loop μ-loop
 unfolding setOf sum
@@ -36,9 +35,9 @@ power-requires c κs = search needs
 
 add-set : tie.Need-add-set Inv-loop μ-loop
 add-set c =
-    let l = c .before .before .before .before .before .loop in
-    let a = c .before .before .before .before .before .before .before .args in
-    let r = set-room (finishes (stateWith 0 (a .st .tasks) (now (a .remaining)))) (l .i) (omega arith) in
+    let l = c .before .before .before .before .before .before .loop in
+    let a = c .before .before .before .before .before .before .before .before .before .args in
+    let r = set-room (finishes (stateWith 0 (a .st .tasks) (a .st .remaining))) (l .i) (omega arith) in
     omega (arith, c .power .ensures, l .inv .1)
 
 add-i : tie.Need-add-i Inv-loop μ-loop
@@ -50,9 +49,9 @@ loop-less c = search needs
 loop-again : tie.Need-loop-again Inv-loop μ-loop
 unfolding finishes live activity nothingLeft remaining idle
 loop-again c =
-    let l = c .before .before .before .before .loop in
-    let a = c .before .before .before .before .before .before .args in
-    let p = finishes (stateWith 0 (a .st .tasks) (now (a .remaining))) in
+    let l = c .before .before .before .before .before .loop in
+    let a = c .before .before .before .before .before .before .before .before .args in
+    let p = finishes (stateWith 0 (a .st .tasks) (a .st .remaining)) in
     ⊎-elim
     (λ w. (omega arith, w .2 ∙ ap₂ (λ (a b : ℕ). a + b) (l .inv .1) (w .1 .ensures) ∙ sym (set-with p (l .i) (sym (c .before .ends .ensures) ∙ w .0 .taken))))
     (λ w. (omega arith, w .1 ∙ l .inv .1 ∙ sym (set-without p (l .i) (sym (c .before .ends .ensures) ∙ w .0 .left))))
@@ -63,8 +62,8 @@ unfolding finished
 returns c =
     let l = c .before .loop in
     let e : l .i ≡ 16 = omega arith in
-    let s = c .before .before .before in
-    l .inv .1 ∙ ap (λ (n : ℕ). setOf n (finishes (stateWith 0 (s .args .st .tasks) (now (s .args .remaining))))) e ∙ finished-same (s .args .st) _ (s .pre)
+    let s = c .before .before .before .before in
+    l .inv .1 ∙ ap (λ (n : ℕ). setOf n (finishes (stateWith 0 (s .args .st .tasks) (s .args .st .remaining)))) e ∙ finished-same (s .args .st) _ refl
 
 pub finished-set-spec : {M : Type 1} → statement M
 finished-set-spec =

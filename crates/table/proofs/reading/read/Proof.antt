@@ -12,7 +12,7 @@ use lib.ListN.{length}
 use borrow.Author.Needs.{needs}
 use native.Mathlib.Nat.{sub-zero}
 use native.Mathlib.Omega.{arith}
-use mathlib.Core.Path.{_≡_, refl, sym, ap, _∙_}
+use mathlib.Core.Path.{_≡_, refl, ap, _∙_}
 use Prim.Native.Nat.{_≤_, _+_, _*_, _-_, _%_}
 use Rattle.table.proofs.reading.read.Statement.{statement}
 use Rattle.table.proofs.reading.read.Tie as tie

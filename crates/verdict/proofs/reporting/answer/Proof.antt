@@ -1,7 +1,8 @@
 use native.Mathlib.Omega.{arith}
 use mathlib.Core.Path.{refl}
 use Rattle.text.specs.Text.{text}
-use Rattle.verdict.proofs.Lines.{put-on, put-same, says-accept, says-refuse}
+use Rattle.text.proofs.Putting.{put-on, put-same}
+use Rattle.verdict.proofs.Lines.{says-accept, says-refuse}
 use borrow.Author.Needs.{needs}
 use Rattle.verdict.proofs.reporting.answer.Statement.{statement}
 use Rattle.verdict.proofs.reporting.answer.Tie as tie

@@ -3,7 +3,7 @@ use mathlib.Core.List.{_++_, append-assoc}
 use Prim.Native.Nat.{ℕ}
 use Rattle.text.specs.Text.{text, decimal}
 use Rattle.verdict.specs.Report.{badLine}
-use Rattle.verdict.proofs.Lines.{put-then, put-same}
+use Rattle.text.proofs.Putting.{put-then, put-same}
 use borrow.Author.Needs.{needs}
 use Rattle.verdict.proofs.reporting.bad_line.Statement.{statement}
 use Rattle.verdict.proofs.reporting.bad_line.Tie as tie

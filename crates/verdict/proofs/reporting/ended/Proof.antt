@@ -1,6 +1,6 @@
 use mathlib.Core.Path.{refl}
 use Rattle.text.specs.Text.{newline}
-use Rattle.verdict.proofs.Lines.{put-on}
+use Rattle.text.proofs.Putting.{put-on}
 use borrow.Author.Needs.{needs}
 use Rattle.verdict.proofs.reporting.ended.Statement.{statement}
 use Rattle.verdict.proofs.reporting.ended.Tie as tie

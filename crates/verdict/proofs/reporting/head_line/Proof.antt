@@ -1,7 +1,6 @@
 use mathlib.Core.List.{append-assoc}
 use Rattle.text.specs.Text.{text}
-use Rattle.verdict.specs.Report.{headLine}
-use Rattle.verdict.proofs.Lines.{put-then, put-same}
+use Rattle.text.proofs.Putting.{put-then, put-same}
 use borrow.Author.Needs.{needs}
 use Rattle.verdict.proofs.reporting.head_line.Statement.{statement}
 use Rattle.verdict.proofs.reporting.head_line.Tie as tie
@@ -9,17 +8,11 @@ use Rattle.verdict.proofs.reporting.head_line.Tie as tie
 slice-aggregate-labelled : tie.Need-slice-aggregate-labelled
 slice-aggregate-labelled c = search needs
 
-cast-labelled : tie.Need-cast-labelled
-cast-labelled c = search needs
-
 labelled-requires : tie.Need-labelled-requires
 labelled-requires c κs = search needs
 
 slice-aggregate-labelled-2 : tie.Need-slice-aggregate-labelled-2
 slice-aggregate-labelled-2 c = search needs
-
-cast-labelled-2 : tie.Need-cast-labelled-2
-cast-labelled-2 c = search needs
 
 labelled-requires-2 : tie.Need-labelled-requires-2
 labelled-requires-2 c κs = search needs
@@ -31,11 +24,11 @@ same-length : tie.Need-same-length
 same-length c = search needs
 
 returns : tie.Need-returns
-unfolding headLine text
+unfolding text
 returns c =
     let e = c .before .before in
     let q = e .before .before .before .before in
-    let p = q .before .before .before .before .before .before in
+    let p = q .before .before .before .before .before in
     let r = put-then (p .labelled .ensures .0) (put-then (q .labelled2 .ensures .0) (e .ended .ensures)) in
     put-same r (simp append-assoc)
 
@@ -44,10 +37,8 @@ head-line-spec =
     tie.close
     (tie.spec
     slice-aggregate-labelled
-    cast-labelled
     labelled-requires
     slice-aggregate-labelled-2
-    cast-labelled-2
     labelled-requires-2
     ended-requires
     same-length

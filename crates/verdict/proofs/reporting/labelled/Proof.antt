@@ -1,6 +1,6 @@
 use mathlib.Core.Path.{refl}
 use native.Mathlib.Omega.{arith}
-use Rattle.verdict.proofs.Lines.{put-then, put-on, decimal-within}
+use Rattle.text.proofs.Putting.{put-then, put-on, decimal-within}
 use borrow.Author.Needs.{needs}
 use Rattle.verdict.proofs.reporting.labelled.Statement.{statement}
 use Rattle.verdict.proofs.reporting.labelled.Tie as tie

@@ -5,7 +5,7 @@ use mir.Syntax.{w64}
 use mir.Facts.{toZ-ofZ}
 use Rattle.text.specs.Text.{text, newline, signed}
 use Rattle.verdict.specs.Report.{lastLine}
-use Rattle.verdict.proofs.Lines.{put-then, put-same}
+use Rattle.text.proofs.Putting.{put-then, put-same}
 use borrow.Author.Needs.{needs}
 use Rattle.verdict.proofs.reporting.last_line.Statement.{statement}
 use Rattle.verdict.proofs.reporting.last_line.Tie as tie

@@ -1,8 +1,10 @@
 use mathlib.Core.Path.{ap}
 use native.Mathlib.Omega.{arith}
+use lib.ListN.{length}
 use Rattle.verdict.specs.Report.{lastLine, reportOn}
 use Rattle.verdict.proofs.Length.{head-most}
-use Rattle.verdict.proofs.Lines.{put-then, put-same, lines-most}
+use Rattle.text.proofs.Putting.{put-then, put-same}
+use Rattle.verdict.proofs.Lines.{head-is, lines-most}
 use borrow.Author.Needs.{needs}
 use Rattle.verdict.proofs.reporting.table_lines.Statement.{statement}
 use Rattle.verdict.proofs.reporting.table_lines.Tie as tie
@@ -13,30 +15,32 @@ head-line-requires c κs = search needs
 task-lines-requires : tie.Need-task-lines-requires
 task-lines-requires c κs =
     let s = c .before .before .before .before .before .before in
-    (omega (arith, head-most (s .args .t) (s .pre), c .before .before .before .head-line .ensures .behind), s .pre)
+    let q = s .pre in
+    (q, omega (arith, head-most (q .0) (q .1), ap length (head-is (q .0) (s .args .x) (q .2)), c .before .before .before .head-line .ensures .behind))
 
-verdict-on-requires : tie.Need-verdict-on-requires
-verdict-on-requires c κs = search needs
+judged-requires : tie.Need-judged-requires
+judged-requires c κs = search needs
 
 last-line-requires : tie.Need-last-line-requires
 last-line-requires c κs =
     let p = c .before .before .before .before in
     let h = p .before .before .before .before in
     let s = h .before .before .before in
-    omega (arith, head-most (s .args .t) (s .pre), lines-most (s .args .t) (s .pre) (s .args .t .n) (omega arith), h .head-line .ensures .behind, p .task-lines .ensures .behind)
+    let q = s .pre in
+    omega (arith, head-most (q .0) (q .1), ap length (head-is (q .0) (s .args .x) (q .2)), lines-most (q .0) (q .1) (q .0 .n) (omega arith), h .head-line .ensures .behind, p .task-lines .ensures (q .0) (q .1) (q .2) .behind)
 
 same-length : tie.Need-same-length
 same-length c = search needs
 
 returns : tie.Need-returns
 unfolding reportOn
-returns c =
+returns c = λ t g x.
     let l = c .before .before in
     let v = l .before .before in
     let p = v .before .before .before in
     let h = p .before .before .before .before in
-    let r = put-then (put-then (h .head-line .ensures) (p .task-lines .ensures)) (put-same (l .last-line .ensures) (ap lastLine (v .verdict-on .ensures))) in
-    r
+    let head = put-same (h .head-line .ensures) (head-is t (h .before .before .before .args .x) x) in
+    put-then (put-then head (p .task-lines .ensures t g x)) (put-same (l .last-line .ensures) (ap lastLine (v .judged .ensures t g x)))
 
 pub table-lines-spec : {M : Type 1} → statement M
 table-lines-spec =
@@ -44,7 +48,7 @@ table-lines-spec =
     (tie.spec
     head-line-requires
     task-lines-requires
-    verdict-on-requires
+    judged-requires
     last-line-requires
     same-length
     returns)

@@ -4,13 +4,11 @@ use lib.IntN.{ℤ}
 use mir.Syntax.{w64}
 use mir.Facts.{toZ-ofZ}
 use Rattle.text.specs.Text.{text, newline, signed}
-use Rattle.verdict.proofs.Lines.{put-then, put-same, line-is}
+use Rattle.text.proofs.Putting.{put-then, put-same}
+use Rattle.verdict.proofs.Lines.{line-is}
 use borrow.Author.Needs.{needs}
 use Rattle.verdict.proofs.reporting.task_line.Statement.{statement}
 use Rattle.verdict.proofs.reporting.task_line.Tie as tie
-
-figures-on-requires : tie.Need-figures-on-requires
-figures-on-requires c κs = search needs
 
 slice-aggregate-labelled : tie.Need-slice-aggregate-labelled
 slice-aggregate-labelled c = search needs
@@ -50,17 +48,15 @@ returns c =
     let l = d .before .before .before .before .before in
     let v = l .before .before .before .before .before in
     let k = v .before .before .before .before .before in
-    let f = k .before .before .before in
-    let a = f .before .before .args in
-    let z = ap (λ (y : ℤ). text " margin " ++ signed y ++ newline) (toZ-ofZ {w = w64} {z = f .figures-on .result .margin} (record { sfits = e .before .struct-told .given .1 .1 .1 .1 .0 .1 })) in
+    let a = k .before .before .before .before .args in
+    let z = ap (λ (y : ℤ). text " margin " ++ signed y ++ newline) (toZ-ofZ {w = w64} {z = a .f .margin} (record { sfits = e .before .struct-told .given .1 .1 .1 .1 .0 .1 })) in
     let r = put-then (k .labelled .ensures .0) (put-then (v .labelled2 .ensures .0) (put-then (l .labelled3 .ensures .0) (put-then (d .labelled4 .ensures .0) (put-same (e .with-margin .ensures) z)))) in
-    put-same r (line-is (a .t) (a .k) (f .figures-on .result) (f .figures-on .ensures))
+    λ t h. put-same r (line-is t (a .k) (a .f) h)
 
 pub task-line-spec : {M : Type 1} → statement M
 task-line-spec =
     tie.close
     (tie.spec
-    figures-on-requires
     slice-aggregate-labelled
     labelled-requires
     slice-aggregate-labelled-2

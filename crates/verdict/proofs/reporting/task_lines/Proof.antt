@@ -1,40 +1,84 @@
 -- One line behind another. The invariant: the lines of the first k tasks are put.
-use mathlib.Core.Path.{_≡_, ap}
-use mathlib.Core.List.{List}
-use Prim.Native.Nat.{ℕ, _≤_, _-_}
+use mathlib.Core.Path.{_≡_, ap, _∙_}
+use Prim.Native.Nat.{ℕ, _≤_, _<_, _-_}
 use native.Mathlib.Omega.{arith}
+use mir.Syntax.{w64}
+use mir.Val.{SFits}
+use mir.Facts.{toZ-ofZ}
 use borrow.Author.Needs.{needs}
 use Rattle.graph.specs.Words.{inOrder}
-use Rattle.verdict.specs.Report.{taskLine, Put}
-use Rattle.verdict.proofs.Lines.{put-none, put-same, put-then, put-long, none-before, one-more, lines-most}
+use Rattle.text.specs.Laid.{Put}
+use Rattle.table.specs.declared.Table.{Table}
+use Rattle.table.specs.Good.{GoodTable}
+use Rattle.verdict.specs.Measured.{Holds}
+use Rattle.verdict.specs.Report.{taskLine}
+use Rattle.verdict.proofs.Figured.{few-held, held-due-ready, held-due, held-margin-ready, held-margin}
+use Rattle.verdict.proofs.Judged.{figures-are}
+use Rattle.text.proofs.Putting.{put-none, put-same, put-then, put-long, none-before, one-more}
+use Rattle.verdict.proofs.Lines.{lines-most}
 use Rattle.verdict.proofs.reporting.task_lines.Statement.{statement}
 use Rattle.verdict.proofs.reporting.task_lines.Tie as tie
 
 abbrev Inv-loop : tie.InvT-loop
-Inv-loop out₀ at t vols times n p₀ k₀ out p k = (k ≤ t .n) × Put out₀ at (inOrder k (taskLine t)) out p
+Inv-loop out₀ at x periods vols n p₀ k₀ out p k =
+    (k ≤ x .n) × ((t : Table) → GoodTable t → Holds t x → Put out₀ at (inOrder k (taskLine t)) out p)
 
 abbrev μ-loop : tie.MeasureT-loop
-μ-loop out₀ at t vols times n p₀ k₀ out p k = t .n - k
-
-volumes-requires : tie.Need-volumes-requires Inv-loop μ-loop
-volumes-requires c κs = search needs
-
-periods-requires : tie.Need-periods-requires Inv-loop μ-loop
-periods-requires c κs = search needs
+μ-loop out₀ at x periods vols n p₀ k₀ out p k = x .n - k
 
 cast-n : tie.Need-cast-n Inv-loop μ-loop
 cast-n c = search needs
 
 loop-holds : tie.Need-loop-holds Inv-loop μ-loop
-loop-holds c = (omega arith, put-same (put-none _ _) (none-before _))
+loop-holds c = (omega arith, λ t g h. put-same (put-none _ _) (none-before _))
+
+mul-d : tie.Need-mul-d Inv-loop μ-loop
+mul-d c = search needs
+
+element-copy-out-d : tie.Need-element-copy-out-d Inv-loop μ-loop
+element-copy-out-d c = let h = few-held (c .before .before .before .before .before .args .t3) (c .before .before .before .before .before .pre .0) in omega arith
+
+mul-vol : tie.Need-mul-vol Inv-loop μ-loop
+mul-vol c = search needs
+
+array-read-vol : tie.Need-array-read-vol Inv-loop μ-loop
+array-read-vol c = let h = few-held (c .before .before .before .before .before .before .args .t3) (c .before .before .before .before .before .before .pre .0) in omega arith
+
+mul-len : tie.Need-mul-len Inv-loop μ-loop
+mul-len c = search needs
+
+element-copy-out-len : tie.Need-element-copy-out-len Inv-loop μ-loop
+element-copy-out-len c = let h = few-held (c .before .before .before .before .before .before .args .t3) (c .before .before .before .before .before .before .pre .0) in omega arith
+
+due-of-requires : tie.Need-due-of-requires Inv-loop μ-loop
+due-of-requires c κs =
+    let s = c .before .before .before .before .before .before .before in
+    let l = c .before .before .before .loop in
+    let q = s .pre .0 in
+    let b : l .k < q .0 .n = omega (arith, q .2 .n-is) in
+    held-due-ready (q .0) (q .1) (l .k) b (s .args .t3) (q .2)
+
+cast-margin-of : tie.Need-cast-margin-of Inv-loop μ-loop
+cast-margin-of c = search needs
+
+cast-margin-of-2 : tie.Need-cast-margin-of-2 Inv-loop μ-loop
+cast-margin-of-2 c = search needs
+
+margin-of-requires : tie.Need-margin-of-requires Inv-loop μ-loop
+margin-of-requires c κs =
+    let s = c .before .before .before .before .before .before .before .before in
+    let l = c .before .before .before .before .loop in
+    let q = s .pre .0 in
+    let b : l .k < q .0 .n = omega (arith, q .2 .n-is) in
+    held-margin-ready (q .0) (q .1) (l .k) b (s .args .t3) (q .2) (c .due-of .result) (held-due (q .0) (q .1) (l .k) b (s .args .t3) (q .2) (c .due-of .result) (c .due-of .ensures))
 
 task-line-requires : tie.Need-task-line-requires Inv-loop μ-loop
 task-line-requires c κs =
-    let l = c .before .before .loop in
-    let s = c .before .before .before .before .before .before .before in
-    let m = lines-most (s .args .t) (s .pre .1) (l .k) (omega arith) in
-    let p = l .inv .1 .behind in
-    (omega arith, s .pre .1, omega arith, c .before .before .before .before .periods .ensures, c .before .before .before .before .before .volumes .ensures)
+    let s = c .before .before .before .before .before .before .before .before .before .before in
+    let l = c .before .before .before .before .before .before .loop in
+    let q = s .pre .0 in
+    let b : l .k < q .0 .n = omega (arith, q .2 .n-is) in
+    omega (arith, lines-most (q .0) (q .1) (l .k) (omega arith), l .inv .1 (q .0) (q .1) (q .2) .behind, s .pre .1)
 
 add-k : tie.Need-add-k Inv-loop μ-loop
 add-k c = search needs
@@ -43,17 +87,28 @@ loop-less : tie.Need-loop-less Inv-loop μ-loop
 loop-less c = search needs
 
 loop-again : tie.Need-loop-again Inv-loop μ-loop
-loop-again c = (omega arith, put-same (put-then (c .before .before .before .before .before .loop .inv .1) (c .before .before .task-line .ensures)) (one-more _ _))
+loop-again c =
+    let s = c .before .before .before .before .before .before .before .before .before .before .before .before .before in
+    let l = c .before .before .before .before .before .before .before .before .before .loop in
+    let y = c .before .before .before .before .before .due-of in
+    let z = c .before .before .before .before .margin-of in
+    let f : SFits w64 (z .result) = record { sfits = z .ok } in (
+      omega arith,
+      λ t g h.
+          let b : l .k < t .n = omega (arith, h .n-is) in
+          let d = held-due t g (l .k) b (s .args .t3) h (y .result) (y .ensures) in
+          let m = toZ-ofZ f ∙ held-margin t g (l .k) b (s .args .t3) h (y .result) d (z .result) (z .ensures) in
+          put-same (put-then (l .inv .1 t g h) (c .before .before .task-line .ensures t (figures-are t (l .k) _ _ _ _ (h .vol-is (l .k) b) (h .len-is (l .k) b) d m))) (one-more _ _),
+    )
 
 same-length : tie.Need-same-length Inv-loop μ-loop
-same-length c = put-long (c .before .loop .inv .1)
+same-length c = let q = c .before .before .before .before .before .pre .0 in put-long (c .before .loop .inv .1 (q .0) (q .1) (q .2))
 
 returns : tie.Need-returns Inv-loop μ-loop
-returns c =
+returns c = λ t g h.
     let l = c .before .loop in
-    let t = c .before .before .before .before .before .before .args .t in
-    let e : l .k ≡ t .n = omega arith in
-    put-same (l .inv .1) (ap (λ (k : ℕ). inOrder k (taskLine t)) e)
+    let e : l .k ≡ t .n = omega (arith, h .n-is) in
+    put-same (l .inv .1 t g h) (ap (λ (k : ℕ). inOrder k (taskLine t)) e)
 
 pub task-lines-spec : {M : Type 1} → statement M
 task-lines-spec =
@@ -61,10 +116,18 @@ task-lines-spec =
     (tie.spec
     Inv-loop
     μ-loop
-    volumes-requires
-    periods-requires
     cast-n
     loop-holds
+    mul-d
+    element-copy-out-d
+    mul-vol
+    array-read-vol
+    mul-len
+    element-copy-out-len
+    due-of-requires
+    cast-margin-of
+    cast-margin-of-2
+    margin-of-requires
     task-line-requires
     add-k
     loop-less

@@ -2,7 +2,8 @@ use mathlib.Core.Path.{refl, ap}
 use mir.Facts.{toZ-ofZ}
 use native.Mathlib.Omega.{arith}
 use Rattle.text.specs.Text.{text, signed}
-use Rattle.verdict.proofs.Lines.{put-then, put-on, put-same, signed-within}
+use Rattle.text.proofs.Putting.{put-then, put-on, put-same}
+use Rattle.verdict.proofs.Lines.{signed-within}
 use borrow.Author.Needs.{needs}
 use Rattle.verdict.proofs.reporting.with_margin.Statement.{statement}
 use Rattle.verdict.proofs.reporting.with_margin.Tie as tie

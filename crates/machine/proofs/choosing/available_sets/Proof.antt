@@ -1,7 +1,6 @@
 use mathlib.Core.Path.{_≡_, refl, _∙_}
 use Prim.Native.Nat.{ℕ, _+_, _*_, _-_, _≤_}
 use native.Mathlib.Omega.{arith}
-use denote.Ref.{now}
 use borrow.Author.Needs.{needs}
 use mathlib.Core.List.{List}
 use Rattle.graph.specs.Words.{row, setOf}
@@ -13,18 +12,18 @@ use Rattle.machine.specs.Steps.{available, availableSets}
 use Rattle.machine.proofs.Filling.{Filled, filled-none, filled-set, filled-all}
 use Rattle.machine.proofs.Rows.{tableWith, stateWith, sets-same}
 use Rattle.machine.proofs.Ready.{available-set}
-use Rattle.machine.proofs.choosing.sets_in.Statement.{statement}
-use Rattle.machine.proofs.choosing.sets_in.Tie as tie
+use Rattle.machine.proofs.choosing.available_sets.Statement.{statement}
+use Rattle.machine.proofs.choosing.available_sets.Tie as tie
 
 -- task i's set
 abbrev oneSet : Table → State → ℕ → ℕ
 oneSet t st i = setOf 16 (λ u. available t st (16 * i + u))
 
 abbrev Inv-loop : tie.InvT-loop
-Inv-loop remaining tasks states sets₀ i₀ sets i = (i ≤ 16) × Filled 16 0 (oneSet (tableWith tasks) (stateWith 0 states remaining)) sets₀ i sets
+Inv-loop tasks states left sets₀ i₀ sets i = (i ≤ 16) × Filled 16 0 (oneSet (tableWith tasks) (stateWith 0 states left)) sets₀ i sets
 
 abbrev μ-loop : tie.MeasureT-loop
-μ-loop remaining tasks states sets₀ i₀ sets i = 16 - i
+μ-loop tasks states left sets₀ i₀ sets i = 16 - i
 
 loop-holds : tie.Need-loop-holds Inv-loop μ-loop
 loop-holds c = (search needs, filled-none 16 0 _ _ refl)
@@ -62,10 +61,10 @@ loop-less c = search needs
 loop-again : tie.Need-loop-again Inv-loop μ-loop
 unfolding activity idle vertices succ task noTask
 loop-again c =
-    let a = c .before .before .before .before .before .before .before .before .before .args in
+    let a = c .before .before .before .before .before .before .before .before .before .before .before .args in
     let t = tableWith (a .t .tasks) in
-    let st = stateWith 0 (a .st .tasks) (now (a .remaining)) in
-    let l = c .before .before .before .before .before .before .loop in
+    let st = stateWith 0 (a .st .tasks) (a .st .remaining) in
+    let l = c .before .before .before .before .before .before .before .loop in
     let e = c .available-in .ensures in (
       omega arith,
       filled-set 16 0 (oneSet t st) _ (l .i) (l .sets) (l .inv .1) (c .available-in .result) (omega arith)
@@ -78,11 +77,11 @@ filled t st e = e
 
 returns : tie.Need-returns Inv-loop μ-loop
 returns c =
-    let s = c .before .before .before .before in
-    filled _ _ (filled-all 16 0 _ _ _ _ (c .before .loop .inv .1) (omega arith)) ∙ sets-same (s .args .t) (s .args .st) _ (s .pre)
+    let s = c .before .before .before .before .before in
+    filled _ _ (filled-all 16 0 _ _ _ _ (c .before .loop .inv .1) (omega arith)) ∙ sets-same (s .args .t) (s .args .st) _ refl
 
-pub sets-in-spec : {M : Type 1} → statement M
-sets-in-spec =
+pub available-sets-spec : {M : Type 1} → statement M
+available-sets-spec =
     tie.close
     (tie.spec
     Inv-loop

@@ -3,14 +3,12 @@ use mathlib.Core.Path.{_≡_}
 use mathlib.Core.List.{List, [], _∷_, _++_}
 use Prim.Native.Nat.{ℕ}
 use Rattle.text.specs.Text.{text, newline}
 use Rattle.lines.specs.Watching.{watched}
+use Rattle.examples.specs.Examples.{fileA}
 
 -- table A, its length before it
 unfoldable pub tableA : List ℕ
-tableA =
-    52 ∷ 0 ∷ 0x54 ∷ 0x42 ∷ 2 ∷ 2
-    ∷ 0x54 ∷ 0x4B ∷ 3 ∷ 2 ∷ 10 ∷ 0 ∷ 0 ∷ 0 ∷ 12 ∷ 0 ∷ 0 ∷ 0 ∷ 2 ∷ 0 ∷ 0 ∷ 0 ∷ 3 ∷ 0 ∷ 0 ∷ 0 ∷ 1 ∷ 0 ∷ 0 ∷ 0 ∷ 0 ∷ 1 ∷ 0 ∷ 2
-    ∷ 0x54 ∷ 0x4B ∷ 2 ∷ 0 ∷ 6 ∷ 0 ∷ 0 ∷ 0 ∷ 6 ∷ 0 ∷ 0 ∷ 0 ∷ 2 ∷ 0 ∷ 0 ∷ 0 ∷ 2 ∷ 0 ∷ 0 ∷ 0 ∷ []
+tableA = 52 ∷ 0 ∷ fileA
 
 -- clock 0; both released, task 1 named at tick 5 and again at tick 6; an odd last byte
 unfoldable pub inputA : List ℕ

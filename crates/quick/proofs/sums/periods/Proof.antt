@@ -4,9 +4,9 @@ use Prim.Native.Nat.{_-_, _≤_}
 use native.Mathlib.Omega.{arith}
 use borrow.Author.Needs.{needs}
 use Rattle.table.specs.Memory.{noTask, task, T}
 use Rattle.verdict.proofs.Figured.{Filled, filled-none, filled-next}
-use Rattle.verdict.proofs.figuring.periods.Statement.{statement}
-use Rattle.verdict.proofs.figuring.periods.Tie as tie
+use Rattle.quick.proofs.sums.periods.Statement.{statement}
+use Rattle.quick.proofs.sums.periods.Tie as tie
 
 abbrev Inv-loop : tie.InvT-loop
 Inv-loop t times₀ i₀ times i = (i ≤ t .n) × Filled (T t) i times

@@ -1,0 +1,21 @@
+-- What the code works on, for the contracts of its parts: the measures of a table's tasks, a row of sixteen for each.
+use mathlib.Core.Path.{_≡_}
+use Prim.Native.Nat.{ℕ, _<_}
+use lib.ListN.{getD}
+use Rattle.table.specs.declared.Table.{Table}
+use Rattle.table.specs.Memory.{D, T}
+use Rattle.table.specs.Good.{GoodTable}
+use Rattle.verdict.specs.declared.Measures.{Measures}
+use Rattle.verdict.specs.Verdicts.{vol, len}
+
+pub record Holds (t : Table) (x : Measures) : Type 0 where
+  pub m-is : x .m ≡ t .m
+  pub n-is : x .n ≡ t .n
+  pub D-is : (k : ℕ) → k < t .n → getD (x .deadlines) k 0 ≡ D t k
+  pub T-is : (k : ℕ) → k < t .n → getD (x .periods) k 0 ≡ T t k
+  pub vol-is : (k : ℕ) → k < t .n → getD (x .vols) k 0 ≡ vol t k
+  pub len-is : (k : ℕ) → k < t .n → getD (x .lens) k 0 ≡ len t k
+
+-- measures of some good table
+abbrev pub OfGood : Measures → Type 0
+OfGood x = (t : Table) × GoodTable t × Holds t x
