@@ -14,7 +14,7 @@ pub mod ticking;
 pub mod writing;
 
 /// Every comparison; a new one is a line here.
-pub const COMPARISONS: [comparison::Comparison; 8] = [
+pub const COMPARISONS: [comparison::Comparison; 9] = [
     reading::READING,
     writing::WRITING,
     judging::JUDGING,

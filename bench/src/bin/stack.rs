@@ -5,7 +5,7 @@
 
 use bench::plain;
 use compare::{face, judging, reading, ticking, writing};
-use second::random::{file, largest_table, Random};
+use second::random::{busy_table, file, journal, largest_table, Random};
 use second::table::LARGEST;
 use std::mem::size_of;
 
@@ -182,9 +182,26 @@ fn tick(r: &mut Random, k: u64) -> Both {
     ]
 }
 
+/// Plain C has no judge.
+fn judge(r: &mut Random, k: u64) -> Both {
+    let table = match k {
+        0 => largest_table(r),
+        _ => busy_table(r),
+    };
+    let (bytes, rows) = (file(&table), journal(r, &table, 12));
+    let (from, count) = (bytes.as_ptr() as usize, bytes.len());
+    let (_answer, to) = room::<face::Ruling>();
+    let words = [to, from, count, rows.as_ptr() as usize, rows.len(), 0];
+    [taken(face::entry::mt_judge as *const (), words, ()), 0]
+}
+
 fn line(name: &str, one: fn(&mut Random, u64) -> Both, beside: &str) {
     let each = (0..INPUTS).map(|k| one(&mut Random::new(k), k));
     let [ours, theirs] = each.fold([0, 0], |most, now| [0, 1].map(|i| now[i].max(most[i])));
+    let theirs = match theirs {
+        0 => String::from("-"),
+        bytes => bytes.to_string(),
+    };
     println!("{name:<10}{ours:>8}{theirs:>10}{beside}");
 }
 
@@ -201,4 +218,5 @@ fn main() {
     line("mt_report", report, "");
     line("mt_open", open, "");
     line("mt_tick", tick, &put(size_of::<face::State>(), "state"));
+    line("mt_judge", judge, "");
 }
