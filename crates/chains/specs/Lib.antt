@@ -1,0 +1,2 @@
+-- Document 02, M-102: which of the chains with the largest sum is listed. What it means is in proofs/.
+pub mod Chains
