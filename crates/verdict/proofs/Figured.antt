@@ -1,5 +1,5 @@
 -- What the code finds of a good table's task is its len, due and margin; what a difference of two numbers is to the machine.
-use mathlib.Core.Path.{_≡_, sym, ap, ap₂, _∙_}
+use mathlib.Core.Path.{_≡_, refl, sym, ap, ap₂, _∙_}
 use mathlib.Core.Bool.{Bool, true, false, cond}
 use mathlib.Core.List.{List, [], _∷_}
 use Prim.Native.Nat.{ℕ, zero, suc, _+_, _*_, _-_, _/_, _^_, _≤_, _<_}
@@ -8,22 +8,26 @@ use native.Mathlib.Nat.{mul-le-mul, div-le-self}
 use native.Mathlib.Numerals.{add-one}
 use native.Mathlib.Decide.{ℕ-discrete, decLt}
 use lib.Dec.{ltb}
-use lib.ListN.{length, getD, set, length-set}
+use lib.ListN.{length, getD, set, length-set, replicate, getD-replicate, length-replicate}
 use lib.Seq.{getD-set-same, getD-set-other, ext-getD}
 use lib.IntN.{ℤ, pos, negsuc, _-ℤ_}
 use lib.Signed.{mag, ltZ}
 use mir.Syntax.{w64}
 use mir.Val.{Fits, SFits, toZ, ofZ}
 use mir.Facts.{toZ-pos, toZ-ofZ}
-use Rattle.graph.specs.Words.{sum, row}
+use borrow.Author.Tests.{lt-ltb, ltb-true, ltb-false}
+use Rattle.graph.specs.Words.{pick, sum, row}
 use Rattle.graph.specs.Graph.{longestOf}
-use Rattle.graph.proofs.Facts.{sum-same, length-row, row-at}
+use Rattle.graph.proofs.Facts.{sum-same, length-row, row-at, past-end}
 use Rattle.graph.proofs.Narrow.{longestOf-is}
+use Rattle.chains.specs.declared.ChainFound.{ChainFound}
+use Rattle.chains.specs.Chains.{chainOf, answered, longestChain}
+use Rattle.chains.proofs.Named.{chainOf-is}
 use Rattle.table.specs.declared.Table.{Table}
 use Rattle.table.specs.Memory.{vertices, D, T, succ, edgeIn, cost}
 use Rattle.table.specs.Good.{GoodTable}
 use Rattle.verdict.specs.declared.Measures.{Measures}
-use Rattle.verdict.specs.Verdicts.{vol, len, roundedUp, due, margin}
+use Rattle.verdict.specs.Verdicts.{vol, len, roundedUp, due, margin, chain, upTo}
 use Rattle.verdict.specs.Measured.{Holds, OfGood}
 use Rattle.verdict.proofs.Amounts.{vol-high, len-vol, due-bound}
 
@@ -38,9 +42,16 @@ sum-done i n x f e h = rw e at h
 pub record Filled (f : ℕ → ℕ) (i : ℕ) (a : List ℕ) : Type 0 where
   pub size : length a ≡ 16
   pub each : (j : ℕ) → j < i → getD a j 0 ≡ f j
+  pub rest : (j : ℕ) → i ≤ j → getD a j 0 ≡ 0
 
-pub filled-none : {f : ℕ → ℕ} {a : List ℕ} → length a ≡ 16 → Filled f 0 a
-filled-none h = record { size = h; each = λ j l. absurd (omega arith) }
+zeros : (n j : ℕ) → _≡_ {A = ℕ} (getD (replicate n 0) j 0) 0
+zeros n j = elim (decLt j n) [
+  | yes b ↦ getD-replicate n j 0 0 b
+  | no b ↦ past-end (replicate n 0) j 0 (omega (arith, length-replicate {A = ℕ} n 0))
+]
+
+pub filled-none : {f : ℕ → ℕ} {a : List ℕ} → a ≡ replicate 16 0 → Filled f 0 a
+filled-none e = record { size = ap length e; each = λ j l. absurd (omega arith); rest = λ j l. ap (λ (x : List ℕ). getD x j 0) e ∙ zeros 16 j }
 
 pub filled-next : {f : ℕ → ℕ} {i : ℕ} {a : List ℕ} (x : ℕ) → i < 16 → x ≡ f i → Filled f i a → Filled f (i + 1) (set a i x)
 filled-next {f} {i} {a} x h e r = record {
@@ -49,12 +60,28 @@ filled-next {f} {i} {a} x h e r = record {
     | yes q ↦ rw q (getD-set-same a i x 0 (omega (arith, r .size)) ∙ e)
     | no q ↦ getD-set-other a i j x 0 q ∙ r .each j (omega arith)
   ];
+  rest = λ j l. getD-set-other a i j x 0 (λ q. omega arith) ∙ r .rest j (omega arith);
 }
 
 pub filled-row : {f : ℕ → ℕ} {a : List ℕ} → Filled f 16 a → a ≡ row 16 f
 filled-row {f} {a} r =
     ext-getD 0 a (row 16 f) (r .size ∙ sym (length-row 16 f))
     (λ i h. let l : i < 16 = omega (arith, r .size) in r .each i l ∙ sym (row-at 16 f i 0 l))
+
+-- the first n of them, and zeros
+pub filled-upTo : {f : ℕ → ℕ} {n : ℕ} {a : List ℕ} → Filled f n a → a ≡ upTo n f
+unfolding upTo
+filled-upTo {f} {n} {a} r =
+    ext-getD 0 a (row 16 (λ k. pick (ltb k n) (f k) 0)) (r .size ∙ sym (length-row 16 _))
+    (λ i h. let l : i < 16 = omega (arith, r .size) in at i (ltb i n) refl ∙ sym (row-at 16 (λ k. pick (ltb k n) (f k) 0) i 0 l))
+  where
+    at : (i : ℕ) (b : Bool) → ltb i n ≡ b → getD a i 0 ≡ pick b (f i) 0
+    at i true e = r .each i (ltb-true i n e)
+    at i false e = r .rest i (ltb-false i n e)
+
+pub upTo-at : (n k : ℕ) (f : ℕ → ℕ) → k < n → n ≤ 16 → getD (upTo n f) k 0 ≡ f k
+unfolding upTo
+upTo-at n k f b h = row-at 16 (λ k. pick (ltb k n) (f k) 0) k 0 (omega arith) ∙ ap (λ (c : Bool). pick c (f k) 0) (lt-ltb k n b)
 
 module _ (t : Table) (good : GoodTable t) (k : ℕ) (b : k < t .n) where
   -- the longest chain of the successors and the sixteen costs as they lie in memory is len
@@ -65,6 +92,19 @@ module _ (t : Table) (good : GoodTable t) (k : ℕ) (b : k < t .n) where
       e
       ∙ longestOf-is (vertices t k) (succ t k) (row 16 (λ u. getD (t .costs) (16 * k + u) 0)) (cost t k) (g .v-high) (g .no-cycle)
       (λ u w e. let q = g .ends u w e in (q .0, q .1)) (λ u h. row-at 16 (λ u. getD (t .costs) (16 * k + u) 0) u 0 h) (g .unused)
+
+  -- the chain that is listed of them is the task's
+  pub chain-found : chainOf (succ t k) (row 16 (λ u. getD (t .costs) (16 * k + u) 0)) ≡ chain t k
+  unfolding chain edgeIn cost
+  chain-found =
+      let g = good .each k b in
+      chainOf-is (vertices t k) (succ t k) (row 16 (λ u. getD (t .costs) (16 * k + u) 0)) (cost t k) (g .v-low) (g .v-high) (g .no-cycle)
+      (λ u w e. let q = g .ends u w e in (q .0, q .1)) (λ u h. row-at 16 (λ u. getD (t .costs) (16 * k + u) 0) u 0 h) (g .unused)
+
+  -- so is the answer that carries both
+  pub answer-found : (r : ChainFound) → r ≡ longestChain (succ t k) (row 16 (λ u. getD (t .costs) (16 * k + u) 0)) → r ≡ answered (len t k) (chain t k)
+  unfolding longestChain
+  answer-found r e = e ∙ ap₂ answered (len-found _ refl) chain-found
 
   -- what is due, over rows that hold the periods and the vols
   pub due-found : (times vols : List ℕ) → ((i : ℕ) → i < t .n → getD times i 0 ≡ T t i) → ((i : ℕ) → i < t .n → getD vols i 0 ≡ vol t i)

@@ -5,9 +5,10 @@ use mathlib.Core.Bool.{Bool, true, false}
 use mathlib.Core.List.{List}
 use Prim.Native.Nat.{ℕ, suc, _-_, _≤_, _<_}
 use native.Mathlib.Omega.{arith}
+use lib.ListN.{replicate}
 use lib.IntN.{ℤ, pos}
 use lib.Signed.{ltZ, leZ, _≤ℤ_, _<ℤ_}
-use Rattle.graph.specs.Words.{all, lowest}
+use Rattle.graph.specs.Words.{all, rowFrom, row, lowest}
 use Rattle.graph.proofs.Facts.{clash, all-of, all-at, all-not, lowest-is, lowestOr-none}
 use Rattle.table.specs.declared.Table.{Table}
 use Rattle.table.specs.declared.Outcome.{Outcome}
@@ -17,10 +18,10 @@ use Rattle.table.specs.Reading.{whenRead, read}
 use Rattle.table.specs.Good.{GoodTable}
 use Rattle.table.proofs.Sound.{read-good}
 use Rattle.verdict.specs.declared.Verdict.{Verdict}
-use Rattle.verdict.specs.Verdicts.{margin, naming, verdictOn, unread, verdictRead, verdict}
+use Rattle.verdict.specs.Verdicts.{margin, naming, verdictOn, inPlaces, unread, verdictRead, verdict}
 use Rattle.verdict.proofs.Orders.{le-yes, lt-yes, not-lt, le-trans, smallest, Lowest, search-low, lowestOr-is}
 
--- "a file that reading refuses gets that number and place, task 255 and margin 0"
+-- "a file that reading refuses gets that number and place, task 255 and margin 0"; it "has no chain"
 pub record Unreadable (o : Outcome) (v : Verdict) : Type 0 where
   pub low : 1 ≤ v .number
   pub high : v .number ≤ 8
@@ -28,6 +29,8 @@ pub record Unreadable (o : Outcome) (v : Verdict) : Type 0 where
   pub its-place : v .place ≡ place o
   pub no-task : v .task ≡ 255
   pub no-margin : v .margin ≡ pos 0
+  pub no-chain : v .count ≡ 0
+  pub no-vertex : v .chain ≡ replicate 16 255
 
 -- 20: the lowest task with a negative margin, and its margin
 pub record Refuses (t : Table) (v : Verdict) : Type 0 where
@@ -123,6 +126,20 @@ module _ (t : Table) (good : GoodTable t) where
       inr (ap (λ (v : Verdict). v .number) e, subst (λ (v : Verdict). Accepts t v) (sym e) (accepts h (some-least .0) (some-least .1))))
       (search-low (t .n) negative)
 
+  -- it names a task of the table, and is the answer that names it
+  pub named-below : verdictOn t .task < t .n
+  named-below = ⊎-elim (λ q. q .1 .below) (λ q. q .1 .below) table-says
+
+  pub names : verdictOn t ≡ naming (verdictOn t .number) t (verdictOn t .task)
+  unfolding naming
+  names = ⊎-elim
+      (λ r. by 20 (r .0) (some-negative (r .0) (r .1)))
+      (λ h. by 0 (some-least .0) (none-negative h (some-least .0) (some-least .1)))
+      (search-low (t .n) negative)
+    where
+      by : (x y : ℕ) → verdictOn t ≡ naming x t y → verdictOn t ≡ naming (verdictOn t .number) t (verdictOn t .task)
+      by x y e = subst (λ (v : Verdict). v ≡ naming (v .number) t (v .task)) (sym e) refl
+
 -- ---- every file
 pub data Says (s : List ℕ) (v : Verdict) : Type 0 where
   unreadable : Unreadable (read s .outcome) v → Says s v
@@ -143,10 +160,10 @@ by-outcome (Cycle p) go = inr (omega arith, omega arith, refl)
 by-outcome (Extra p) go = inr (omega arith, omega arith, refl)
 
 pub verdict-says : (s : List ℕ) → Says s (verdict s)
-unfolding verdict verdictRead unread
+unfolding verdict verdictRead unread inPlaces row rowFrom
 verdict-says s = ⊎-elim
     (λ r. subst (Says s) (sym (r .1)) (judged (r .0) (table-says (read s .table) (read-good s (r .0)))))
-    (λ r. subst (Says s) (sym (r .2)) (unreadable (record { low = r .0; high = r .1; its-number = refl; its-place = refl; no-task = refl; no-margin = refl })))
+    (λ r. subst (Says s) (sym (r .2)) (unreadable (record { low = r .0; high = r .1; its-number = refl; its-place = refl; no-task = refl; no-margin = refl; no-chain = refl; no-vertex = refl })))
     (by-outcome (read s .outcome) (λ _. verdictOn (read s .table)))
   where
     judged : read s .outcome ≡ Read

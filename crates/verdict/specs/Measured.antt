@@ -6,7 +6,9 @@ use Rattle.table.specs.declared.Table.{Table}
 use Rattle.table.specs.Memory.{D, T}
 use Rattle.table.specs.Good.{GoodTable}
 use Rattle.verdict.specs.declared.Measures.{Measures}
-use Rattle.verdict.specs.Verdicts.{vol, len}
+use Rattle.verdict.specs.declared.Decided.{Decided}
+use Rattle.verdict.specs.declared.Verdict.{Verdict}
+use Rattle.verdict.specs.Verdicts.{vol, len, upTo}
 
 pub record Holds (t : Table) (x : Measures) : Type 0 where
   pub m-is : x .m ≡ t .m
@@ -16,6 +18,15 @@ pub record Holds (t : Table) (x : Measures) : Type 0 where
   pub vol-is : (k : ℕ) → k < t .n → getD (x .vols) k 0 ≡ vol t k
   pub len-is : (k : ℕ) → k < t .n → getD (x .lens) k 0 ≡ len t k
 
+  -- from n on they are 0
+  pub deadlines-are : x .deadlines ≡ upTo (t .n) (D t)
+  pub vols-are : x .vols ≡ upTo (t .n) (vol t)
+  pub lens-are : x .lens ≡ upTo (t .n) (len t)
+
 -- measures of some good table
 abbrev pub OfGood : Measures → Type 0
 OfGood x = (t : Table) × GoodTable t × Holds t x
+
+-- a verdict on a table without its chain, which is looked for when the task is known
+unfoldable pub decided : Verdict → Decided
+decided v = record { number = v .number; task = v .task; margin = v .margin }

@@ -5,9 +5,11 @@ ghost use lib.ListN.{getD};
 ghost use lib.IntN.{pos, _-ℤ_};
 ghost use Rattle.graph.specs.Words.{sum, row};
 ghost use Rattle.graph.specs.Graph.{longestOf};
+ghost use Rattle.chains.specs.Chains.{answered};
 ghost use Rattle.table.specs.Good.{GoodTable};
-ghost use Rattle.verdict.specs.Verdicts.{roundedUp};
+ghost use Rattle.verdict.specs.Verdicts.{len, roundedUp, chain};
 ghost use Rattle.verdict.specs.Measured.{Holds};
+use chains::ChainFound;
 use crate::Measures;
 use table::Table;
 
@@ -53,6 +55,17 @@ fn len_of(costs: &[u32; 256], i: usize, succ: [u16; 16]) -> u64
 {
     let own = own_costs(costs, i);
     graph::longest(succ, own)
+}
+
+// The longest chain by name of a good table's task.
+pub(crate) fn chain_of(t: Table, k: usize) -> ChainFound
+    requires { ⌜ GoodTable t × (k < t .n) ⌝ }
+    ensures { λ r. ⌜ r ≡ answered (len t k) (chain t k) ⌝ }
+{
+    let x = t.tasks[k];
+    let succ = x.succ;
+    let own = own_costs(&t.costs, k);
+    chains::longest_chain(succ, own)
 }
 
 // The measures of a good table.

@@ -1,19 +1,20 @@
 // The verdict on a table and on a file, and the figures of a file's task: document 01, "The verdict".
 ghost use mathlib.Core.Path.{_≡_};
-ghost use Rattle.table.specs.declared.Table.{Table};
 ghost use Rattle.table.specs.Good.{GoodTable};
 ghost use Rattle.verdict.specs.Verdicts.{verdictOn, unread, verdict, noFigures, figures};
-ghost use Rattle.verdict.specs.Measured.{Holds, OfGood};
+ghost use Rattle.verdict.specs.Measured.{Holds, OfGood, decided};
+use crate::Decided;
 use crate::Figures;
 use crate::Measures;
 use crate::Verdict;
 use crate::figuring;
 use table::Outcome;
+use table::Table;
 
 // The margins of a good table's tasks in turn, by its measures: the first negative one, or the first that is the smallest.
-pub(crate) fn judged(x: Measures) -> Verdict
+fn judged(x: Measures) -> Decided
     requires { ⌜ OfGood x ⌝ }
-    ensures { λ r. ⌜ ((t : Table) → GoodTable t → Holds t x → r ≡ verdictOn t) ⌝ }
+    ensures { λ r. ⌜ ((t : Table) → GoodTable t → Holds t x → r ≡ decided (verdictOn t)) ⌝ }
 {
     let periods = x.periods;
     let vols = x.vols;
@@ -27,9 +28,8 @@ pub(crate) fn judged(x: Measures) -> Verdict
         let due = figuring::due_of(n, d, periods, vols);
         let z = figuring::margin_of(x.m as u64, d as u64, len, due);
         if z < 0 {
-            return Verdict {
+            return Decided {
                 number: 20,
-                place: 0,
                 task: k as u8,
                 margin: z,
             };
@@ -40,16 +40,42 @@ pub(crate) fn judged(x: Measures) -> Verdict
         }
         k += 1;
     }
-    Verdict {
+    Decided {
         number: 0,
-        place: 0,
         task: task,
         margin: best,
     }
 }
 
+// The verdict on a good table, by its measures: the task first, then that task's chain.
+pub(crate) fn verdict_by(t: Table, x: Measures) -> Verdict
+    requires { ⌜ GoodTable t × Holds t x ⌝ }
+    ensures { λ r. ⌜ r ≡ verdictOn t ⌝ }
+{
+    let d = judged(x);
+    let c = figuring::chain_of(t, d.task as usize);
+    let chain = c.vertices;
+    Verdict {
+        number: d.number,
+        place: 0,
+        task: d.task,
+        margin: d.margin,
+        count: c.count,
+        chain: chain,
+    }
+}
+
+// The verdict on a good table.
+fn verdict_on(t: Table) -> Verdict
+    requires { ⌜ GoodTable t ⌝ }
+    ensures { λ r. ⌜ r ≡ verdictOn t ⌝ }
+{
+    let x = figuring::measures(t);
+    verdict_by(t, x)
+}
+
 // What a file that reading refuses gets.
-fn unread(o: Outcome) -> Verdict
+pub(crate) fn unread(o: Outcome) -> Verdict
     ensures { λ r. ⌜ r ≡ unread o ⌝ }
 {
     let number = table::number(o);
@@ -59,6 +85,8 @@ fn unread(o: Outcome) -> Verdict
         place: place,
         task: 255,
         margin: 0,
+        count: 0,
+        chain: [255u8; 16],
     }
 }
 
@@ -71,8 +99,7 @@ pub fn verdict_of(bytes: &[u8]) -> Verdict
     let Outcome::Read = o else {
         return unread(o);
     };
-    let x = figuring::measures(l.table);
-    judged(x)
+    verdict_on(l.table)
 }
 
 // None.

@@ -1,11 +1,11 @@
 -- The loop's invariant: the measures of the tasks so far.
-use mathlib.Core.Path.{refl}
+use mathlib.Core.Path.{_≡_, refl}
 use Prim.Native.Nat.{_-_, _≤_, _<_}
 use native.Mathlib.Omega.{arith}
 use borrow.Author.Needs.{needs}
 use Rattle.table.specs.Memory.{noTask, task, vertices, D, T, succ, cost}
 use Rattle.verdict.specs.Verdicts.{vol, len}
-use Rattle.verdict.proofs.Figured.{Filled, filled-none, filled-next, len-found}
+use Rattle.verdict.proofs.Figured.{Filled, filled-none, filled-next, filled-upTo, len-found}
 use Rattle.verdict.proofs.figuring.measures.Statement.{statement}
 use Rattle.verdict.proofs.figuring.measures.Tie as tie
 
@@ -93,6 +93,7 @@ loop-again c =
 returns : tie.Need-returns Inv-loop μ-loop
 returns c =
     let l = c .before .loop in
+    let e : l .i ≡ c .before .before .args .t1 .n = omega arith in
     record {
       m-is = refl;
       n-is = refl;
@@ -100,6 +101,9 @@ returns c =
       T-is = λ k h. l .inv .2 .each k (omega arith);
       vol-is = λ k h. l .inv .3 .each k (omega arith);
       len-is = λ k h. l .inv .4 .each k (omega arith);
+      deadlines-are = filled-upTo (rw e at (l .inv .1));
+      vols-are = filled-upTo (rw e at (l .inv .3));
+      lens-are = filled-upTo (rw e at (l .inv .4));
     }
 
 pub measures-spec : {M : Type 1} → statement M

@@ -1,5 +1,4 @@
-use denote.Ref.{now}
-use Rattle.verdict.proofs.Judged.{file-laws, good-read, verdict-got}
+use Rattle.verdict.proofs.Judged.{file-laws}
 use borrow.Author.Needs.{needs}
 use Rattle.verdict.proofs.judging.verdict_of.Statement.{statement}
 use Rattle.verdict.proofs.judging.verdict_of.Tie as tie
@@ -16,26 +15,11 @@ unread-requires c κs = search needs
 returns : tie.Need-returns
 returns c = search file-laws
 
-measures-requires : tie.Need-measures-requires
-measures-requires c κs = search file-laws
-
-judged-requires : tie.Need-judged-requires
-judged-requires c κs =
-    let a = c .before .before .before .before .before .args in
-    let r = c .before .before .before .read in
-    let e = c .before .enum-told .given .1 in
-    let x = c .measures in
-    let g = good-read (now (a .bytes)) (r .result) (r .ensures) e in
-    (r .result .table, g, x .ensures)
+verdict-on-requires : tie.Need-verdict-on-requires
+verdict-on-requires c κs = search file-laws
 
 returns-2 : tie.Need-returns-2
-returns-2 c =
-    let a = c .before .before .before .before .before .before .args in
-    let r = c .before .before .before .before .read in
-    let e = c .before .before .enum-told .given .1 in
-    let x = c .before .measures in
-    let g = good-read (now (a .bytes)) (r .result) (r .ensures) e in
-    verdict-got (now (a .bytes)) (r .result) (r .ensures) _ e (c .judged .ensures (r .result .table) g (x .ensures))
+returns-2 c = search file-laws
 
 pub verdict-of-spec : {M : Type 1} → statement M
 verdict-of-spec =
@@ -45,6 +29,5 @@ verdict-of-spec =
     enum-told
     unread-requires
     returns
-    measures-requires
-    judged-requires
+    verdict-on-requires
     returns-2)

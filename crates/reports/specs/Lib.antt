@@ -1,0 +1,2 @@
+-- The report's text. What it means is in proofs/.
+pub mod Report

@@ -1,0 +1,24 @@
+use borrow.Author.Needs.{needs}
+use Rattle.verdict.proofs.Judged.{all-found}
+use Rattle.verdict.proofs.finding.findings_on.Statement.{statement}
+use Rattle.verdict.proofs.finding.findings_on.Tie as tie
+
+measures-requires : tie.Need-measures-requires
+measures-requires c κs = search needs
+
+dues-of-requires : tie.Need-dues-of-requires
+dues-of-requires c κs = search needs
+
+verdict-by-requires : tie.Need-verdict-by-requires
+verdict-by-requires c κs = search needs
+
+returns : tie.Need-returns
+returns c =
+    let s = c .before .before .before .before .before .before in
+    let x = c .before .before .before .before .before .measures in
+    let d = c .before .before .before .before .dues-of in
+    all-found (s .args .t) (x .result) (d .result) _ (x .ensures) (d .ensures (s .args .t) (s .pre) (x .ensures)) (c .before .before .before .verdict-by .ensures)
+
+pub findings-on-spec : {M : Type 1} → statement M
+findings-on-spec =
+    tie.close (tie.spec measures-requires dues-of-requires verdict-by-requires returns)
