@@ -1,7 +1,7 @@
 -- The report's parts: the bounds that keep the places small, the verdict's words by its number, a task's line by its figures.
 use mathlib.Core.Path.{_≡_, refl, ap, _∙_}
 use mathlib.Core.Bool.{true}
-use mathlib.Core.List.{_++_, append-assoc}
+use mathlib.Core.List.{List, [], _∷_, _++_, append-assoc}
 use Prim.Native.Nat.{ℕ, suc, _+_, _*_, _-_, _≤_, _<_}
 use native.Mathlib.Omega.{arith}
 use lib.ListN.{length, getD}
@@ -23,7 +23,7 @@ use Rattle.verdict.proofs.Figured.{upTo-at, margin-ready, margin-found}
 use Rattle.verdict.proofs.Says.{named-below}
 use Rattle.verdict.proofs.Named.{table-chain}
 use Rattle.verdict.proofs.Judged.{figures-are}
-use Rattle.reports.specs.Report.{headLine, taskLine}
+use Rattle.reports.specs.Report.{headLine, taskLine, vertexAt, OfGood}
 use Rattle.reports.proofs.Length.{task-most}
 
 -- ---- bounds
@@ -41,6 +41,11 @@ says-accept n e = rw (eq-eqb n 0 e)
 
 pub says-refuse : (n : ℕ) → (n ≡ 0 → ⊥) → text "refuse " ++ decimal n ≡ pick (eqb n 0) (text "accept") (text "refuse " ++ decimal n)
 says-refuse n e = rw (ne-eqb n 0 e)
+
+-- ---- a space and a vertex, byte 32 as the code has it
+pub vertex-is : (chain : List ℕ) (i : ℕ) → (32 ∷ []) ++ decimal (getD chain i 0) ≡ vertexAt chain i
+unfolding vertexAt text
+vertex-is chain i = refl
 
 -- ---- a task's line, by its figures
 pub line-is : (t : Table) (k : ℕ) (f : Figures) → f ≡ figuresOn t k
@@ -102,6 +107,9 @@ module _ (t : Table) (good : GoodTable t) (f : Findings) (e : f ≡ findingsOn t
     found-figures z q w r =
         figures-are t k _ _ _ w vol-is len-is due-is
         (r ∙ margin-found t good k b (getD (f .lens) k 0) (getD (f .dues) k 0) len-is due-is z (rw (m-is, D-is) at q))
+
+pub few-found : (f : Findings) → OfGood f → f .n ≤ 16
+few-found f (t, g, e) = omega (arith, g .n-high, n-is t g f e)
 
 -- ---- line after line
 pub lines-most : (t : Table) → GoodTable t → (k : ℕ) → k ≤ t .n → length (inOrder k (taskLine t)) ≤ 1248

@@ -9,15 +9,13 @@ use borrow.Author.Tests.{le-leb, lt-leb}
 use Rattle.text.specs.Laid.{laid, Put}
 use Rattle.text.proofs.Laying.{laid-front}
 use Rattle.table.specs.declared.Outcome.the-variants.{Read}
-use Rattle.table.specs.declared.Table.{Table}
-use Rattle.table.specs.Good.{GoodTable}
 use Rattle.verdict.specs.declared.Findings.{Findings}
-use Rattle.verdict.specs.Verdicts.{findingsOn, findings}
+use Rattle.verdict.specs.Verdicts.{findings}
 use Rattle.table.specs.Reading.{read}
 use Rattle.table.proofs.PartLaws.{told-other, not-read}
 use Rattle.table.proofs.Prefix.{read-prefix}
 use Rattle.reports.specs.declared.Report.{Report}
-use Rattle.reports.specs.Report.{badLine, reportOn, reportRead, report, reported, reportInto}
+use Rattle.reports.specs.Report.{badLine, reportOn, OfGood, reportRead, report, reported, reportInto}
 use Rattle.reports.proofs.Length.{report-most}
 use Rattle.text.proofs.Putting.{put-same, put-long, zeros-behind}
 use Rattle.verdict.proofs.Judged.{its-outcome, found-good, found-read}
@@ -33,7 +31,7 @@ module _ (s : List ℕ) (f : Findings) (h : f ≡ findings s) where
   put-got p e = put-same p (rw (sym (its-outcome s f h) ∙ e))
 
   -- what `table_lines` requires
-  pub of-good : f .outcome ≡ Read → (t : Table) × GoodTable t × (f ≡ findingsOn t)
+  pub of-good : f .outcome ≡ Read → OfGood f
   of-good e = (read s .table, found-good s f h e, found-read s f h e)
 
 pub ruleset line-laws = (told-other, put-stop, of-good)

@@ -1,4 +1,5 @@
 -- The report's text, as bytes: document 01, "Examples by hand"; document 02, M-102, for the chain.
+use mathlib.Core.Path.{_≡_}
 use mathlib.Core.List.{List, _++_}
 use Prim.Native.Nat.{ℕ, _-_}
 use lib.Dec.{leb, eqb}
@@ -10,9 +11,11 @@ use Rattle.table.specs.declared.Outcome.{Outcome}
 use Rattle.table.specs.declared.Loaded.{Loaded}
 use Rattle.table.specs.Numbers.{number, place}
 use Rattle.table.specs.Reading.{whenRead, read}
+use Rattle.table.specs.Good.{GoodTable}
 use Rattle.verdict.specs.declared.Verdict.{Verdict}
+use Rattle.verdict.specs.declared.Findings.{Findings}
 use Rattle.reports.specs.declared.Report.{Report}
-use Rattle.verdict.specs.Verdicts.{vol, len, due, margin, verdictOn}
+use Rattle.verdict.specs.Verdicts.{vol, len, due, margin, verdictOn, findingsOn}
 
 -- "processors 2 tasks 2"
 unfoldable pub headLine : Table → List ℕ
@@ -46,6 +49,10 @@ reportOn t = headLine t ++ inOrder (t .n) (taskLine t) ++ lastLine (verdictOn t)
 -- on what reading gave: one line, or the report on its table
 unfoldable pub reportRead : Loaded → List ℕ
 reportRead r = whenRead (r .outcome) badLine λ _. reportOn (r .table)
+
+-- what was found of some good table: for the contracts of the parts
+abbrev pub OfGood : Findings → Type 0
+OfGood f = (t : Table) × GoodTable t × (f ≡ findingsOn t)
 
 -- "The report program reads a table from standard input; .. it prints exactly": at most 1,366 bytes (`report-most`, proofs/Length.antt)
 unfoldable pub report : List ℕ → List ℕ

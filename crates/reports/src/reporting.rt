@@ -11,7 +11,7 @@ ghost use Rattle.text.specs.Laid.{Put};
 ghost use Rattle.table.specs.declared.Table.{Table};
 ghost use Rattle.table.specs.Good.{GoodTable};
 ghost use Rattle.verdict.specs.Verdicts.{figuresOn, findingsOn};
-ghost use Rattle.reports.specs.Report.{taskLine, vertexAt, lastLine, badLine, reportOn, report, reported, reportInto};
+ghost use Rattle.reports.specs.Report.{taskLine, vertexAt, lastLine, badLine, reportOn, OfGood, report, reported, reportInto};
 use crate::Report;
 use table::Outcome;
 use verdict::Figures;
@@ -87,7 +87,7 @@ fn margin_of(m: u64, d: u64, len: u64, due: u64) -> i64
 
 // The lines of a good table's tasks.
 fn task_lines(out: &mut [u8], at: usize, f: Findings) -> usize
-    requires { ⌜ ((t : Table) × GoodTable t × (f ≡ findingsOn t)) × (at ≤ 22) ⌝ }
+    requires { ⌜ OfGood f × (at ≤ 22) ⌝ }
     ensures { λ r. ⌜ ((t : Table) → GoodTable t → f ≡ findingsOn t → Put (now (out .entry)) at (inOrder (t .n) (taskLine t)) (now (out .exit)) r) ⌝ }
 {
     let n = f.n as usize;
@@ -138,6 +138,16 @@ fn chain_words(out: &mut [u8], at: usize, count: usize, chain: [u8; 16]) -> usiz
     p
 }
 
+// A chain, and the line's end.
+fn with_chain(out: &mut [u8], at: usize, count: usize, chain: [u8; 16]) -> usize
+    requires { ⌜ (at ≤ 2000) × (count ≤ 16) ⌝ }
+    ensures { λ r. ⌜ Put (now (out .entry)) at (text " chain" ++ inOrder count (vertexAt chain) ++ newline) (now (out .exit)) r ⌝ }
+{
+    text::put_bytes(&mut *out, at, b" chain");
+    let p = chain_words(&mut *out, at + 6, count, chain);
+    ended(&mut *out, p)
+}
+
 // The verdict's line.
 fn last_line(out: &mut [u8], at: usize, v: Verdict) -> usize
     requires { ⌜ (at ≤ 1366) × (v .count ≤ 16) ⌝ }
@@ -146,10 +156,8 @@ fn last_line(out: &mut [u8], at: usize, v: Verdict) -> usize
     let p = answer(&mut *out, at, v.number);
     let q = labelled(&mut *out, p, b" task ", v.task as u64);
     let a = with_margin(&mut *out, q, v.margin);
-    text::put_bytes(&mut *out, a, b" chain");
     let chain = v.chain;
-    let e = chain_words(&mut *out, a + 6, v.count as usize, chain);
-    ended(&mut *out, e)
+    with_chain(&mut *out, a, v.count as usize, chain)
 }
 
 // The one line of a file that reading refuses.
@@ -165,7 +173,7 @@ fn bad_line(out: &mut [u8], o: Outcome) -> usize
 
 // The lines of a good table.
 fn table_lines(out: &mut [u8], f: Findings) -> usize
-    requires { ⌜ (t : Table) × GoodTable t × (f ≡ findingsOn t) ⌝ }
+    requires { ⌜ OfGood f ⌝ }
     ensures { λ r. ⌜ ((t : Table) → GoodTable t → f ≡ findingsOn t → Put (now (out .entry)) 0 (reportOn t) (now (out .exit)) r) ⌝ }
 {
     let p = head_line(&mut *out, f.m, f.n);

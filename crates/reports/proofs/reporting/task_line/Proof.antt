@@ -47,7 +47,7 @@ returns : tie.Need-returns
 unfolding text
 returns c =
     let n = c .before .before in
-    let e = n .before .before .before in
+    let e = n .before .before .before .before in
     let d = e .before .before .before .before .before in
     let l = d .before .before .before .before .before in
     let v = l .before .before .before .before .before in
