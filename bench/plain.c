@@ -274,26 +274,58 @@ static void figure(const struct plain_table *table, struct figures *f) {
     }
 }
 
+/* The longest chain by name: from the lowest vertex with the whole sum on, the lowest successor with just what is left. */
+static void name_chain(const struct plain_task *task, const uint32_t *costs, struct plain_verdict *v) {
+    uint8_t order[PLAIN_VERTICES];
+    uint32_t from[PLAIN_VERTICES] = {0}, left = 0;
+    unsigned among = (1u << task->v) - 1;
+    for (int i = sorted(task, order) - 1; i >= 0; i--) {
+        int u = order[i];
+        EACH(w, task->succ[u])
+            if (from[w] > from[u])
+                from[u] = from[w];
+        from[u] += costs[u];
+        if (from[u] > left)
+            left = from[u];
+    }
+    do {
+        EACH(u, among)
+            if (from[u] == left) {
+                v->chain[v->count++] = (uint8_t)u;
+                left -= costs[u];
+                among = task->succ[u];
+                break;
+            }
+    } while (left != 0);
+}
+
+static struct plain_verdict name(const struct plain_table *table, const struct figures *f, int number, int k) {
+    struct plain_verdict v = {(uint8_t)number, (uint8_t)k, 0, f->margin[k], 0, {0}};
+    memset(v.chain, PLAIN_NONE, sizeof v.chain);
+    name_chain(&table->tasks[k], &table->costs[PLAIN_VERTICES * k], &v);
+    return v;
+}
+
 static struct plain_verdict judge(const struct plain_table *table, const struct figures *f) {
     int n = table->n, least = 0;
     for (int k = 0; k < n; k++)
         if (f->margin[k] < 0)
-            return (struct plain_verdict){20, (uint8_t)k, 0, f->margin[k]};
-    for (int k = 0; k < n; k++)
-        if (f->len[k] > table->tasks[k].deadline)
-            return (struct plain_verdict){21, (uint8_t)k, 0, f->margin[k]};
+            return name(table, f, 20, k);
     for (int k = 1; k < n; k++)
         if (f->margin[k] < f->margin[least])
             least = k;
-    return (struct plain_verdict){0, (uint8_t)least, 0, f->margin[least]};
+    return name(table, f, 0, least);
 }
 
 struct plain_verdict plain_verdict(const uint8_t *bytes, size_t count) {
     struct plain_table table;
     struct figures f;
     struct plain_answer found = plain_read(bytes, count, &table);
-    if (found.number != 0)
-        return (struct plain_verdict){found.number, PLAIN_NONE, found.place, 0};
+    if (found.number != 0) {
+        struct plain_verdict v = {found.number, PLAIN_NONE, found.place, 0, 0, {0}};
+        memset(v.chain, PLAIN_NONE, sizeof v.chain);
+        return v;
+    }
     figure(&table, &f);
     return judge(&table, &f);
 }
@@ -336,6 +368,10 @@ static uint8_t *say_table(uint8_t *p, const struct plain_table *table) {
         p = say(p, "refuse ", v.number);
     }
     p = say(say(p, " task ", v.task), " margin ", v.margin);
+    memcpy(p, " chain", 6);
+    p += 6;
+    for (int i = 0; i < v.count; i++)
+        p = say(p, " ", v.chain[i]);
     *p++ = '\n';
     return p;
 }

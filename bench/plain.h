@@ -6,7 +6,7 @@
 #include <stddef.h>
 #include <stdint.h>
 
-enum { PLAIN_TASKS = 16, PLAIN_VERTICES = 16, PLAIN_ROW = 256, PLAIN_LARGEST = 5060, PLAIN_REPORT_MOST = 1312, PLAIN_NONE = 255 };
+enum { PLAIN_TASKS = 16, PLAIN_VERTICES = 16, PLAIN_ROW = 256, PLAIN_LARGEST = 5060, PLAIN_REPORT_MOST = 1366, PLAIN_NONE = 255 };
 
 /* Every vertex h whose bit stands in a set. */
 #define EACH(h, set) for (unsigned rest_ = (set), h; rest_ != 0 && (h = (unsigned)__builtin_ctz(rest_), 1); rest_ &= rest_ - 1)
@@ -44,6 +44,7 @@ struct plain_verdict {
     uint8_t number, task;
     size_t place;
     int64_t margin;
+    uint8_t count, chain[PLAIN_VERTICES];
 };
 
 struct plain_ran {

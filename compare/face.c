@@ -12,7 +12,7 @@ static const char text[] =
     "processors 2 tasks 2\n"
     "task 0 vol 6 len 5 due 14 margin 1\n"
     "task 1 vol 4 len 2 due 10 margin 0\n"
-    "accept task 1 margin 0\n";
+    "accept task 1 margin 0 chain 0\n";
 
 static int failed(const char *what) {
     fprintf(stderr, "the C face from C: %s\n", what);
@@ -89,16 +89,16 @@ int main(void) {
     if (r.number != MT_SHORT || r.place != 48 || r.table.m != 0)
         return failed("a file cut short is not refused");
     struct mt_verdict_answer v = mt_verdict(a, sizeof a);
-    if (v.number != MT_DONE || v.task != 1 || v.place != 0 || v.margin != 0)
+    if (v.number != MT_DONE || v.task != 1 || v.place != 0 || v.margin != 0 || v.count != 1 || v.chain[0] != 0 || v.chain[1] != MT_NO_VERTEX)
         return failed("table A is not accepted");
     uint8_t one[52];
     memcpy(one, a, sizeof a);
     one[2] = 1;
     v = mt_verdict(one, sizeof one);
-    if (v.number != MT_REFUSED || v.task != 0 || v.place != 0 || v.margin != -4)
+    if (v.number != MT_REFUSED || v.task != 0 || v.place != 0 || v.margin != -4 || v.count != 2 || v.chain[0] != 0 || v.chain[1] != 1)
         return failed("table A with one processor is not refused");
     v = mt_verdict(a, 51);
-    if (v.number != MT_SHORT || v.task != MT_NO_TASK || v.place != 48 || v.margin != 0)
+    if (v.number != MT_SHORT || v.task != MT_NO_TASK || v.place != 48 || v.margin != 0 || v.count != 0 || v.chain[0] != MT_NO_VERTEX)
         return failed("a file cut short is judged");
     if (mt_quick(a, sizeof a) != 1 || mt_quick(one, sizeof one) != 0 || mt_quick(a, 51) != 0)
         return failed("the quick answer is not yes exactly for table A");

@@ -50,7 +50,7 @@ mod milltundra {
 
     pub const DONE: u8 = 0;
     pub const NO_TASK: u8 = 255;
-    pub const REPORT_MOST: usize = 1312;
+    pub const REPORT_MOST: usize = 1366;
 
     #[link(name = "panel", kind = "static")]
     extern "C" {

@@ -48,11 +48,14 @@ enum {
 /* The task of an answer that names none, and both numbers of an unused place of a run list. */
 enum { MT_NO_TASK = 255 };
 
+/* An unused place of a chain. */
+enum { MT_NO_VERTEX = 255 };
+
 /* The largest file in bytes. */
 enum { MT_LARGEST = 5060 };
 
 /* A buffer of this many bytes holds every report. */
-enum { MT_REPORT_MOST = 1312 };
+enum { MT_REPORT_MOST = 1366 };
 
 /* A task: vertices, deadline, period, and for each vertex its successors as sixteen bits. */
 struct mt_task {
@@ -83,13 +86,16 @@ struct mt_write_answer {
     uint64_t place;
 };
 
-/* The verdict's number, the task that it names (MT_NO_TASK for a file that reading refuses), reading's place (otherwise 0), and
-   that task's margin (0 where there is none). */
+/* The verdict's number, the task that it names (MT_NO_TASK for a file that reading refuses), reading's place (otherwise 0), that
+   task's margin (0 where there is none), and its longest chain: `count` vertices in path order, of equal chains the one whose list
+   is first; the other places are MT_NO_VERTEX. A file that reading refuses has none, with a count of 0. */
 struct mt_verdict_answer {
     uint8_t number;
     uint8_t task;
     uint64_t place;
     int64_t margin;
+    uint8_t count;
+    uint8_t chain[16];
 };
 
 /* A task of a state: `live` is 0 for idle or 1; an idle task's deadline is 0. */

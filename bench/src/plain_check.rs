@@ -44,13 +44,7 @@ fn whole(bytes: &[u8]) {
     same("number", answer.number, found.number);
     same("place", answer.place, found.place);
     same("table", table, face::Table::from(&found.table));
-    let v = second::verdict(bytes);
-    let theirs = face::VerdictAnswer {
-        number: v.number,
-        task: v.task,
-        place: v.place as u64,
-        margin: v.margin,
-    };
+    let theirs = face::VerdictAnswer::from(&second::verdict(bytes));
     same("verdict", plain::verdict(bytes), theirs);
     let text = second::report(bytes);
     let mut buffer = [0u8; face::REPORT_MOST];

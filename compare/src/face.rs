@@ -49,6 +49,8 @@ pub struct VerdictAnswer {
     pub task: u8,
     pub place: u64,
     pub margin: i64,
+    pub count: u8,
+    pub chain: [u8; 16],
 }
 
 /// `struct mt_task_state`
@@ -113,7 +115,7 @@ pub struct Ruling {
 }
 
 /// `MT_REPORT_MOST`: a buffer of this many bytes holds every report.
-pub const REPORT_MOST: usize = 1312;
+pub const REPORT_MOST: usize = 1366;
 
 /// The functions themselves, for measurements.
 pub mod entry {
@@ -196,6 +198,19 @@ impl From<&second::Table> for Table {
                 succ: task.succ,
             }),
             costs: table.costs,
+        }
+    }
+}
+
+impl From<&second::Verdict> for VerdictAnswer {
+    fn from(verdict: &second::Verdict) -> VerdictAnswer {
+        VerdictAnswer {
+            number: verdict.number,
+            task: verdict.task,
+            place: verdict.place as u64,
+            margin: verdict.margin,
+            count: verdict.chain.count,
+            chain: verdict.chain.vertices,
         }
     }
 }

@@ -1,4 +1,4 @@
-//! The verdict: number, task, place and margin.
+//! The verdict: number, task, place, margin and chain.
 
 use crate::comparison::{hex, same, Comparison, Difference};
 use crate::face;
@@ -15,13 +15,7 @@ pub const JUDGING: Comparison = Comparison {
 
 fn one(r: &mut Random) -> Result<u8, Difference> {
     let bytes = input(r);
-    let found = second::verdict(&bytes);
-    let theirs = face::VerdictAnswer {
-        number: found.number,
-        task: found.task,
-        place: found.place as u64,
-        margin: found.margin,
-    };
+    let theirs = face::VerdictAnswer::from(&second::verdict(&bytes));
     let ours = face::verdict(&bytes);
     same(theirs.number, &ours, &theirs, || hex(&bytes))
 }

@@ -45,7 +45,7 @@ pub const REPORT_A: &str = "\
 processors 2 tasks 2
 task 0 vol 6 len 5 due 14 margin 1
 task 1 vol 4 len 2 due 10 margin 0
-accept task 1 margin 0
+accept task 1 margin 0 chain 0
 ";
 
 /// Table A, written down byte for byte.

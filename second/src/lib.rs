@@ -3,6 +3,7 @@
 //! compared with the first.
 
 pub mod beside;
+pub mod chain;
 pub mod examples;
 pub mod explore;
 pub mod flat;

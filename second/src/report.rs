@@ -31,5 +31,9 @@ fn put(text: &mut String, bytes: &[u8]) -> std::fmt::Result {
         0 => write!(text, "accept")?,
         number => write!(text, "refuse {number}")?,
     }
-    writeln!(text, " task {} margin {}", answer.task, answer.margin)
+    write!(text, " task {} margin {} chain", answer.task, answer.margin)?;
+    for vertex in answer.chain.list() {
+        write!(text, " {vertex}")?;
+    }
+    writeln!(text)
 }

@@ -1,5 +1,6 @@
 //! The figures of a task and the verdict on a table.
 
+use crate::chain::{longest_named, Chain};
 use crate::graph::longest_chain;
 use crate::reader::read;
 use crate::table::*;
@@ -14,6 +15,7 @@ pub struct Verdict {
     pub place: usize,
     pub task: u8,
     pub margin: i64,
+    pub chain: Chain,
 }
 
 /// The figures of one task.
@@ -34,6 +36,7 @@ pub fn verdict(bytes: &[u8]) -> Verdict {
             place: found.place,
             task: NO_TASK,
             margin: 0,
+            chain: Chain::NONE,
         };
     }
     judge(&found.table)
@@ -62,7 +65,16 @@ pub fn judge(table: &Table) -> Verdict {
         place: 0,
         task,
         margin,
+        chain: chain(table, usize::from(task)),
     }
+}
+
+/// The longest chain of task k by name; none of a task that is not there.
+fn chain(table: &Table, k: usize) -> Chain {
+    let Some(task) = table.tasks.get(k) else {
+        return Chain::NONE;
+    };
+    longest_named(&task.succ, table.costs_of(k), usize::from(task.v))
 }
 
 /// vol, len, due and margin of task k of a table that the reader gave.

@@ -189,6 +189,7 @@ fn unreadable_files() {
                 place,
                 task: 255,
                 margin: 0,
+                chain: chain::Chain::NONE,
             };
             assert_eq!(answer, expected);
         } else {

@@ -4,7 +4,7 @@ use mathlib.Core.List.{List}
 use Prim.Native.Nat.{ℕ}
 use lib.IntN.{ℤ}
 use Rattle.graph.specs.Words.{pick}
-use Rattle.panel.specs.Answers.{readAnswer, writeAnswer, verdictAnswer, rulingFace, rulingAnswer}
+use Rattle.panel.specs.Answers.{readAnswer, writeAnswer, verdictFace, verdictAnswer, rulingFace, rulingAnswer}
 use Rattle.table.specs.declared.Loaded.{Loaded}
 use Rattle.table.specs.declared.Table.{Table}
 use Rattle.table.specs.declared.Written.{Written}
@@ -25,8 +25,8 @@ unfolding writeAnswer
 answers-write t room w n p is-written is-number is-place = rw is-number (rw is-place (rw is-written refl))
 
 -- z is the margin as the machine reads it back from its bits
-pub answers-verdict : (s : List ℕ) (v : Verdict) (z : ℤ) → v ≡ verdict s → z ≡ v .margin → verdictAnswer s ≡ record { number = v .number; task = v .task; place = v .place; margin = z }
-unfolding verdictAnswer
+pub answers-verdict : (s : List ℕ) (v : Verdict) (z : ℤ) → v ≡ verdict s → z ≡ v .margin → verdictAnswer s ≡ record { number = v .number; task = v .task; place = v .place; margin = z; count = v .count; chain = v .chain }
+unfolding verdictAnswer verdictFace
 answers-verdict s v z is-verdict is-margin = rw is-margin (rw is-verdict refl)
 
 pub answers-ruling : (s j : List ℕ) (r : Ruling) (m : ℕ) → r ≡ judge s j → m ≡ pick (r .missed) 1 0

@@ -1,4 +1,4 @@
--- Document 01, "Numbers for reading and writing", "The verdict" and "The machine", and document 02, M-100: the answers as they cross
+-- Document 01, "Numbers for reading and writing", "The verdict" and "The machine", and document 02, M-100 and M-102: the answers as they cross
 -- the C face.
 use mathlib.Core.List.{List}
 use Prim.Native.Nat.{ℕ}
@@ -19,6 +19,7 @@ use Rattle.table.specs.declared.Table.{Table}
 use Rattle.table.specs.Numbers.{number, place, writingNumber, writingPlace}
 use Rattle.table.specs.Reading.{whenRead, read}
 use Rattle.table.specs.Writing.{writing}
+use Rattle.verdict.specs.declared.Verdict.{Verdict}
 use Rattle.verdict.specs.Verdicts.{verdict}
 use Rattle.journal.specs.declared.Ruling.{Ruling}
 use Rattle.journal.specs.Judging.{judge}
@@ -31,9 +32,13 @@ readAnswer s = record { number = number (read s .outcome); place = place (read s
 unfoldable pub writeAnswer : Table → ℕ → WriteAnswer
 writeAnswer t room = record { number = writingNumber (writing t room); place = writingPlace (writing t room) }
 
--- "The verdict takes a file's bytes." Its number and place, "the answer is the lowest such task and its margin"
+-- "The verdict takes a file's bytes." Its number and place, "the answer is the lowest such task and its margin"; M-102: "The
+-- verdict hands on the chain of the task it names"
+unfoldable pub verdictFace : Verdict → VerdictAnswer
+verdictFace v = record { number = v .number; task = v .task; place = v .place; margin = v .margin; count = v .count; chain = v .chain }
+
 unfoldable pub verdictAnswer : List ℕ → VerdictAnswer
-verdictAnswer s = record { number = verdict s .number; task = verdict s .task; place = verdict s .place; margin = verdict s .margin }
+verdictAnswer s = verdictFace (verdict s)
 
 -- "Each answer, opening's too, has a number, a place and a task"; "all tasks are idle with wait 0"
 unfoldable pub openedFace : Opened → OpenAnswer

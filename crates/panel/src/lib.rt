@@ -29,13 +29,15 @@ pub struct WriteAnswer {
     pub place: u64,
 }
 
-// The verdict's number, task, place and margin.
+// The verdict's number, task, place and margin, and the task's chain: places from `count` on are 255.
 #[repr(C)]
 pub struct VerdictAnswer {
     pub number: u8,
     pub task: u8,
     pub place: u64,
     pub margin: i64,
+    pub count: u8,
+    pub chain: [u8; 16],
 }
 
 // A task's state: `live` is 0 for idle or 1, and an idle task's deadline is 0.

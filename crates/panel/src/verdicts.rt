@@ -3,7 +3,7 @@ ghost use mathlib.Core.Path.{_≡_};
 ghost use lib.ListN.{length};
 ghost use Rattle.graph.specs.Words.{flag};
 ghost use Rattle.quick.specs.Quick.{quick};
-ghost use Rattle.verdict.specs.Report.{report, reportInto};
+ghost use Rattle.reports.specs.Report.{report, reportInto};
 ghost use Rattle.panel.specs.Answers.{verdictAnswer};
 use crate::VerdictAnswer;
 
@@ -13,11 +13,14 @@ pub extern "C" fn mt_verdict(bytes: &[u8]) -> VerdictAnswer
     ensures { λ r. ⌜ r ≡ verdictAnswer (now (bytes .entry)) ⌝ }
 {
     let v = verdict::verdict_of(bytes);
+    let chain = v.chain;
     VerdictAnswer {
         number: v.number,
         task: v.task,
         place: v.place as u64,
         margin: v.margin,
+        count: v.count,
+        chain: chain,
     }
 }
 
@@ -37,6 +40,6 @@ pub extern "C" fn mt_quick(bytes: &[u8]) -> u8
 pub extern "C" fn mt_report(bytes: &[u8], out: &mut [u8]) -> u64
     ensures { λ r. ⌜ (r ≡ length (report (now (bytes .entry)))) × (now (out .exit) ≡ reportInto (now (bytes .entry)) (now (out .entry))) ⌝ }
 {
-    let len = verdict::report_into(bytes, out);
+    let len = reports::report_into(bytes, out);
     len as u64
 }

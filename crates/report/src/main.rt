@@ -4,7 +4,7 @@ ghost use lib.ListN.{length};
 use libc::STDIN_FILENO;
 use libc::STDOUT_FILENO;
 
-// Room for a file: of a longer one the first 5,061 bytes have the same report (`report-prefix`, the crate verdict).
+// Room for a file: of a longer one the first 5,061 bytes have the same report (`report-prefix`, the crate reports).
 fn room() -> [u8; 5061]
     ensures { λ r. ⌜ 5061 ≡ length r ⌝ }
 {
@@ -13,7 +13,7 @@ fn room() -> [u8; 5061]
 
 // Writes the report on a file.
 fn print(file: &[u8]) {
-    let r = verdict::report_of(file);
+    let r = reports::report_of(file);
     let n = r.len;
     let words = r.bytes;
     io::write_all(STDOUT_FILENO, &words[..n]);

@@ -82,8 +82,8 @@ pub fn answer_verdicts(stream: &[u8]) -> Option<Vec<Judged>> {
     Some(answers)
 }
 
-/// The text of answers: NUMBER PLACE TASK MARGIN LENGTH SUM in decimal, a
-/// line a case.
+/// The text of answers: NUMBER PLACE TASK MARGIN COUNT CHAIN LENGTH SUM in
+/// decimal, a line a case.
 pub fn verdict_text(answers: &[Judged]) -> String {
     let lines = answers.iter().map(|answer| {
         let Verdict {
@@ -91,9 +91,11 @@ pub fn verdict_text(answers: &[Judged]) -> String {
             place,
             task,
             margin,
+            chain,
         } = answer.verdict;
+        let (count, places) = (chain.count, fnv(&chain.vertices));
         let (length, sum) = (answer.length, answer.sum);
-        format!("{number} {place} {task} {margin} {length} {sum}\n")
+        format!("{number} {place} {task} {margin} {count} {places} {length} {sum}\n")
     });
     lines.collect()
 }

@@ -2,7 +2,7 @@
 use native.Mathlib.Omega.{arith}
 use lib.ListN.{length-take}
 use borrow.Author.Needs.{needs}
-use Rattle.verdict.proofs.Reported.{report-long, report-within}
+use Rattle.reports.proofs.Reported.{report-long, report-within}
 use Rattle.report.proofs.print.Statement.{statement}
 use Rattle.report.proofs.print.Tie as tie
 

@@ -1,4 +1,4 @@
--- `mt_verdict` meets its contract: the number, the task, the place and the margin of the verdict.
+-- `mt_verdict` meets its contract: the number, the task, the place, the margin and the chain of the verdict.
 use mathlib.Core.Path.{sym}
 use mir.Syntax.{w64}
 use mir.Facts.{toZ-ofZ}
@@ -12,7 +12,7 @@ verdict-of-requires c κs = search needs
 
 returns : tie.Need-returns
 returns c =
-    let v = c .before .verdict-of in
+    let v = c .before .before .verdict-of in
     let z = toZ-ofZ {w = w64} {z = v .result .margin} (record { sfits = c .struct-told .given .1 .1 .1 .0 .1 }) in
     sym (answers-verdict _ (v .result) _ (v .ensures) z)
 
