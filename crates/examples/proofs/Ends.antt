@@ -5,11 +5,12 @@ use Prim.Native.Nat.{ℕ, zero, suc, _+_}
 use lib.IntN.{ℤ, pos}
 use Rattle.graph.specs.Words.{bit, sum, all, rowFrom, row, largest, alsoIf, those, thoseBelow, lowest, anyOf, isNone, joinFrom, inOrder, firstOr, lowestOr}
 use Rattle.graph.specs.Graph.{edge, ledTo, sweep, sweeps, acyclicAmong, acyclic, oneMore, longestFrom, maximum, longest}
+use Rattle.chains.specs.Chains.{firstWith, listedAfter, listedFrom, firstChain}
 use Rattle.table.specs.Memory.{noSucc, noCosts, zeroTask, noTasks, noRow, noTable, noTask, task, vertices, D, T, succ, edgeIn, cost}
 use Rattle.table.specs.Numbers.{number, place}
 use Rattle.table.specs.Reading.{field, markAt, ranged, byteAt, value4, ticksAt, notUnder, periodAt, edgeOk, edgeAt, costsAt, addEdge, edgesAt, badTask, partsAt, taskAt, putCosts, badTable, withTask, tasksAt, tableAt, refused, ending, read}
 use Rattle.table.specs.Writing.{bytes4}
-use Rattle.verdict.specs.Verdicts.{vol, len, roundedUp, due, margin, naming, verdictOn, unread, verdictRead, verdict}
+use Rattle.verdict.specs.Verdicts.{vol, len, roundedUp, due, margin, chain, inPlaces, naming, verdictOn, unread, verdictRead, verdict}
 use Rattle.verdict.proofs.Margins.{lowEnd}
 
 -- a task with D and T the same, some vertices of one cost, and some edges 0-1, 1-2, ..
@@ -25,6 +26,8 @@ lowFile = 0x54 ∷ 0x42 ∷ 8 ∷ 16 ∷ (chained 16 15 1000000 1000000 ++ inOrd
 unfoldable pub highFile : List ℕ
 highFile = 0x54 ∷ 0x42 ∷ 8 ∷ 1 ∷ chained 1 0 1000000 1
 
-pub ends-reached : (verdict lowFile ≡ record { number = 20; place = 0; task = 0; margin = lowEnd }) × (verdict highFile ≡ record { number = 0; place = 0; task = 0; margin = pos 7999992 })
-unfolding lowEnd bit sum all rowFrom row largest alsoIf those thoseBelow lowest anyOf isNone joinFrom inOrder firstOr lowestOr edge ledTo sweep sweeps acyclicAmong acyclic oneMore longestFrom maximum longest noSucc noCosts zeroTask noTasks noRow noTable noTask task vertices D T succ edgeIn cost number place field markAt ranged byteAt value4 ticksAt notUnder periodAt edgeOk edgeAt costsAt addEdge edgesAt badTask partsAt taskAt putCosts badTable withTask tasksAt tableAt refused ending read bytes4 vol len roundedUp due margin naming verdictOn unread verdictRead verdict chained lowFile highFile
+-- with the longest chain that there is, all sixteen vertices, and the shortest
+pub ends-reached : (verdict lowFile ≡ record { number = 20; place = 0; task = 0; margin = lowEnd; count = 16; chain = row 16 (λ i. i) })
+    × (verdict highFile ≡ record { number = 0; place = 0; task = 0; margin = pos 7999992; count = 1; chain = inPlaces (0 ∷ []) })
+unfolding lowEnd bit sum all rowFrom row largest alsoIf those thoseBelow lowest anyOf isNone joinFrom inOrder firstOr lowestOr edge ledTo sweep sweeps acyclicAmong acyclic oneMore longestFrom maximum longest noSucc noCosts zeroTask noTasks noRow noTable noTask task vertices D T succ edgeIn cost number place field markAt ranged byteAt value4 ticksAt notUnder periodAt edgeOk edgeAt costsAt addEdge edgesAt badTask partsAt taskAt putCosts badTable withTask tasksAt tableAt refused ending read bytes4 vol len roundedUp due margin firstWith listedAfter listedFrom firstChain chain inPlaces naming verdictOn unread verdictRead verdict chained lowFile highFile
 ends-reached = (refl, refl)

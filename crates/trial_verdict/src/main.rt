@@ -1,6 +1,7 @@
 // Runs recorded cases through the verdict and the report. Input, a case: the length (two bytes, little-endian) and the bytes of a
 // file, or length 0 for the file of the case before, as it stood then; and a count of changes (a byte), each a place (two bytes) and
-// the byte that stands there now. Output, a line a case: number, place, task, margin, the report's length and its checksum.
+// the byte that stands there now. Output, a line a case: number, place, task, margin, how many vertices
+// the chain has and the checksum of its sixteen places, the report's length and its checksum.
 // The second program wrote both the cases and what is expected.
 ghost use mathlib.Core.Path.{_≡_};
 ghost use Prim.Native.Nat.{_≤_, _<_};
@@ -54,7 +55,7 @@ fn change(file: &mut [u8], count: u64) {
     }
 }
 
-// The checksum of a report's text: 32-bit FNV-1a.
+// The checksum of some bytes: 32-bit FNV-1a.
 fn sum_of(words: &[u8]) -> u64 {
     let mut sum: u64 = 2166136261;
     let mut i: usize = 0;
@@ -88,11 +89,14 @@ fn answer_verdict(file: &[u8], page: &mut [u8]) {
     print_next(v.place as u64);
     print_next(wide(v.task));
     print_signed(page, v.margin);
+    print_next(wide(v.count));
+    let chain = v.chain;
+    print_next(sum_of(&chain));
 }
 
 // The report's part; its text is laid into the buffer.
 fn answer_report(file: &[u8], page: &mut [u8]) {
-    let len = verdict::report_into(file, &mut *page);
+    let len = reports::report_into(file, &mut *page);
     let k = smaller(len, page.len());
     print_next(len as u64);
     print_next(sum_of(&page[..k]));
