@@ -38,7 +38,7 @@ fn report_lines() {
     one[2] = 1;
     let text = String::from_utf8(report(&one)).unwrap();
     assert!(text.starts_with("processors 1 tasks 2\n"));
-    assert!(text.ends_with("\nrefuse 20 task 0 margin -4\n"));
+    assert!(text.ends_with("\nrefuse 20 task 0 margin -4 chain 0 1\n"));
     assert_eq!(text.lines().count(), 4);
     let longer = [&TABLE_A[..], &[7, 7]].concat();
     assert_eq!(report(&longer), b"unreadable 8 at 52\n");

@@ -110,7 +110,14 @@ fn cases_for_the_verdict() {
     }
     assert_eq!(answer_verdicts(&stream[..stream.len() - 1]), None);
     let first = verdict_text(&answers[..2]);
-    assert_eq!(first, "1 0 255 0 18 1653696668\n0 0 1 0 114 4255783245\n");
+    assert_eq!(
+        first,
+        "1 0 255 0 0 906459637 18 1653696668\n0 0 1 0 1 4230643882 122 3893237434\n"
+    );
+    let chains = || answers.iter().map(|a| a.verdict.chain.count);
+    for count in [0, 1, 2, 3, 4, 16] {
+        assert!(chains().any(|c| c == count), "a chain of {count}");
+    }
 }
 
 #[test]
