@@ -60,11 +60,12 @@ static int read_byte(struct input *in, uint8_t low, uint8_t high, uint8_t *x) {
     return 0;
 }
 
-static int read_ticks(struct input *in, uint32_t *x) {
+/* D and T from 1 on, a cost from 0 on. */
+static int read_ticks(struct input *in, uint32_t least, uint32_t *x) {
     if (!has(in, 4))
         return 1;
     *x = number32(in->bytes + in->at);
-    if (!between(*x, 1, MOST_TICKS))
+    if (!between(*x, least, MOST_TICKS))
         return 4;
     in->at += 4;
     return 0;
@@ -90,15 +91,15 @@ static int read_task(struct input *in, struct plain_task *task, uint32_t *costs)
     uint8_t e, order[PLAIN_VERTICES];
     int number;
     if ((number = read_mark(in, 0x4B)) || (number = read_byte(in, 1, PLAIN_VERTICES, &task->v)) ||
-        (number = read_byte(in, 0, MOST_EDGES, &e)) || (number = read_ticks(in, &task->deadline)) ||
-        (number = read_ticks(in, &task->period)))
+        (number = read_byte(in, 0, MOST_EDGES, &e)) || (number = read_ticks(in, 1, &task->deadline)) ||
+        (number = read_ticks(in, 1, &task->period)))
         return number;
     if (task->deadline > task->period) {
         in->at -= 4;
         return 5;
     }
     for (int h = 0; h < task->v; h++)
-        if ((number = read_ticks(in, &costs[h])))
+        if ((number = read_ticks(in, 0, &costs[h])))
             return number;
     if ((number = read_edges(in, task, e)))
         return number;
@@ -155,7 +156,7 @@ static int check_task(const struct plain_task *task, const uint32_t *costs, size
         return 5;
     *at = mark + 12;
     for (int h = 0; h < task->v; h++, *at += 4)
-        if (!between(costs[h], 1, MOST_TICKS))
+        if (costs[h] > MOST_TICKS)
             return 4;
     for (int u = 0; u < task->v; u++)
         EACH(w, task->succ[u]) {

@@ -10,6 +10,19 @@ static bool zeros(const uint32_t *row, int from, int to) {
     return true;
 }
 
+/* The vertices with a direct predecessor that is not done, given those of which something remains: what is not done are these and
+   all that edges lead to from them. */
+static unsigned held(const struct plain_task *task, unsigned some) {
+    unsigned open = some, left = some, next = 0;
+    while (left != 0) {
+        unsigned to = task->succ[__builtin_ctz(left)];
+        left = (left & (left - 1)) | (to & ~open);
+        open |= to;
+        next |= to;
+    }
+    return next;
+}
+
 struct plain_answer plain_open(const uint8_t *bytes, size_t count, uint32_t clock, struct plain_state *state) {
     struct plain_table table;
     struct plain_answer found = plain_read(bytes, count, &table);
@@ -34,10 +47,9 @@ static bool live_fits(const struct plain_task *task, const uint32_t *costs, cons
         if (remaining[h] > 0)
             unfinished |= (uint16_t)(1u << h);
     }
-    EACH(u, unfinished)
-        EACH(w, task->succ[u])
-            if (remaining[w] != costs[w])
-                return false;
+    EACH(w, held(task, unfinished))
+        if (remaining[w] != costs[w])
+            return false;
     return unfinished != 0;
 }
 
@@ -85,13 +97,11 @@ static int refusal(const struct plain_table *table, const struct plain_state *st
 }
 
 static uint16_t available(const struct plain_task *task, const uint32_t *remaining) {
-    unsigned unfinished = 0, blocked = 0;
+    unsigned unfinished = 0;
     for (int h = 0; h < task->v; h++)
-        if (remaining[h] > 0) {
+        if (remaining[h] > 0)
             unfinished |= 1u << h;
-            blocked |= task->succ[h];
-        }
-    return (uint16_t)(unfinished & ~blocked);
+    return (uint16_t)(unfinished & ~held(task, unfinished));
 }
 
 static void release(const struct plain_table *table, struct plain_state *state, uint16_t releases) {

@@ -13,7 +13,7 @@ enum {
     MT_SHORT = 1,   /* a field does not lie wholly within the input */
     MT_MARK = 2,    /* wrong mark */
     MT_RANGE = 3,   /* m, n, v or e outside its range */
-    MT_TICKS = 4,   /* D, T or a cost outside its range */
+    MT_TICKS = 4,   /* D or T outside its range, 1 to 1,000,000; or a cost above 1,000,000 */
     MT_ORDER = 5,   /* D greater than T */
     MT_EDGE = 6,    /* an edge with an end not below v, or to itself, or not above the edge before it */
     MT_CYCLE = 7,   /* a cycle in the task */

@@ -59,11 +59,12 @@ fn near(r: &mut Random, tasks: usize, vertices: usize) -> second::Table {
 
 /// What the ticks of an extreme table are taken from.
 const ENDS: [&[u32]; 3] = [&[1], &[MOST_TICKS], &[1, MOST_TICKS]];
+const COST_ENDS: [&[u32]; 4] = [&[0], &[1], &[MOST_TICKS], &[0, MOST_TICKS]];
 
 /// Every number at an end of its range, for the smallest margin and the largest.
 fn extreme(r: &mut Random) -> second::Table {
     let mut table = if r.coin() { largest_table(r) } else { table(r) };
-    let (times, costs) = (r.pick(&ENDS), r.pick(&ENDS));
+    let (times, costs) = (r.pick(&ENDS), r.pick(&COST_ENDS));
     table.m = r.pick(&[1, 8]);
     for i in 0..usize::from(table.n) {
         let (one, other) = (r.pick(times), r.pick(times));

@@ -69,6 +69,23 @@ pub fn plain_task(table: &mut Table, i: usize, deadline: u32, period: u32, costs
     table.costs[ENTRIES * i..][..costs.len()].copy_from_slice(costs);
 }
 
+/// Marks of cost 0 (document 02, M-103): a start, four branches, a join, a step
+/// and an end; beside them a job of two steps, and one of marks alone.
+pub fn table_marks() -> Table {
+    let mut table = Table {
+        m: 2,
+        n: 3,
+        ..Table::ZERO
+    };
+    plain_task(&mut table, 0, 20, 24, &[0, 4, 3, 5, 2, 0, 3, 0]);
+    let edges = [0b0001_1110, 1 << 5, 1 << 5, 1 << 5, 1 << 5, 1 << 6, 1 << 7];
+    table.tasks[0].succ[..7].copy_from_slice(&edges);
+    plain_task(&mut table, 1, 12, 12, &[2, 1]);
+    plain_task(&mut table, 2, 10, 10, &[0, 0]);
+    table.tasks[2].succ[0] = 2;
+    table
+}
+
 /// m 2, one vertex, D = T = 7, and a cost.
 fn table_p3(cost: u32) -> Vec<u8> {
     let mut table = Table {

@@ -8,7 +8,7 @@ pub use set::KeySet;
 pub use tiny::small_tables;
 
 use crate::graph::longest_chain;
-use crate::legal::each_choice;
+use crate::legal::each_choice_by;
 use crate::machine::*;
 use crate::table::*;
 use crate::verdict::figures;
@@ -67,6 +67,9 @@ pub enum Wrong {
     Chain(u8),
     /// The next state doesn't fit.
     Misfit,
+    /// A vertex ran while something remained of one from which a path leads
+    /// to it.
+    Early(u8),
 }
 
 /// One step of a run: the tasks released and the vertices run (none for a
@@ -145,11 +148,34 @@ pub fn chain_too_long(table: &Table, released: &State) -> Option<u8> {
     })
 }
 
+/// The lowest task of which a vertex is to run too early: told by paths, not
+/// by what is done.
+pub fn runs_early(table: &Table, released: &State, ran: &[Vertex]) -> Option<u8> {
+    let early = ran.iter().filter(|(task, vertex)| {
+        let i = usize::from(*task);
+        let rest = sixteen(&released.remaining, i);
+        (0..ENTRIES).any(|h| rest[h] > 0 && leads(&table.tasks[i], h, usize::from(*vertex)))
+    });
+    early.map(|(task, _)| *task).min()
+}
+
+/// Whether a path of one edge or more leads from a vertex to another.
+fn leads(task: &Task, from: usize, to: usize) -> bool {
+    let next = (0..ENTRIES).filter(|h| task.succ[from] >> h & 1 == 1);
+    next.into_iter().any(|h| h == to || leads(task, h, to))
+}
+
 /// Explores a tiny table wholly, or up to the first miss or misfit; then a
 /// chain too long without a miss is what is wrong, if there is one.
 pub fn explore(table: &Table, seen: &mut KeySet) -> Found {
+    explore_by(table, held_back, seen)
+}
+
+/// The same with any rule of what waits.
+pub fn explore_by(table: &Table, held: Held, seen: &mut KeySet) -> Found {
     let mut search = Search {
         table,
+        held,
         seen,
         parents: vec![0],
         found: Found::default(),
@@ -179,6 +205,7 @@ pub fn explore(table: &Table, seen: &mut KeySet) -> Found {
 
 struct Search<'a> {
     table: &'a Table,
+    held: Held,
     seen: &'a mut KeySet,
     /// For each state in the order found, the one it was found from.
     parents: Vec<u32>,
@@ -196,10 +223,11 @@ impl Search<'_> {
                 self.found.chains_too_long += 1;
                 self.chain = self.chain.or(Some((task, at, releases)));
             }
-            let whole = each_choice(table, &released, |ran| {
+            let whole = each_choice_by(table, &released, self.held, |ran| {
                 let moved = go_on(table, &released, releases, ran);
                 self.found.ticks += 1;
-                let wrong = self.check(&moved, at);
+                let early = runs_early(table, &released, ran).map(Wrong::Early);
+                let wrong = early.or_else(|| self.check(&moved, at));
                 if let Some(wrong) = wrong {
                     let ran = ran.to_vec();
                     let run = self.run_to(at, Step { releases, ran });
@@ -246,7 +274,7 @@ impl Search<'_> {
         let mut step = None;
         for releases in release_sets(self.table, &state) {
             let released = release(self.table, &state, releases);
-            each_choice(self.table, &released, |ran| {
+            each_choice_by(self.table, &released, self.held, |ran| {
                 let moved = go_on(self.table, &released, releases, ran);
                 if moved.missed.is_none() && pack(&moved.state) == to {
                     let ran = ran.to_vec();

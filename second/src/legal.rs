@@ -2,18 +2,24 @@
 //! vertices that pass over no available vertex with fewer ticks left than one
 //! chosen.
 
-use crate::machine::{left_of, rank, vertex_of, State, Vertex};
+use crate::machine::{held_back, left_of, rank, rank_by, vertex_of, Held, State, Vertex};
 use crate::table::Table;
 
 /// Calls `each` with every legal choice, as a set in rank order, for a state
 /// with the tick's releases made; stops early when `each` says false. Gives
 /// whether it went through to the end.
-pub fn each_choice(
+pub fn each_choice(table: &Table, released: &State, each: impl FnMut(&[Vertex]) -> bool) -> bool {
+    each_choice_by(table, released, held_back, each)
+}
+
+/// The same by any rule of what waits.
+pub fn each_choice_by(
     table: &Table,
     released: &State,
+    held: Held,
     mut each: impl FnMut(&[Vertex]) -> bool,
 ) -> bool {
-    let ranked = rank(table, released);
+    let ranked = rank_by(table, released, held);
     let all = ranked.all();
     let chosen = ranked.first(usize::from(table.m));
     let mut choice: Vec<Vertex> = chosen.iter().copied().map(vertex_of).collect();

@@ -209,8 +209,16 @@ pub fn left_of(entry: u64) -> u32 {
     (entry >> 16) as u32
 }
 
+/// Which vertices of a job wait for a direct predecessor.
+pub type Held = fn(&Task, &[u32; ENTRIES]) -> u16;
+
 /// Steps 2 and 3: what is available, fully sorted.
 pub fn rank(table: &Table, state: &State) -> Ranked {
+    rank_by(table, state, held_back)
+}
+
+/// The same by any rule of what waits.
+pub fn rank_by(table: &Table, state: &State, held_back: Held) -> Ranked {
     let mut entries = [0; ROW];
     let mut count = 0;
     for i in 0..usize::from(table.n) {
@@ -232,11 +240,44 @@ pub fn rank(table: &Table, state: &State) -> Ranked {
     Ranked { entries, count }
 }
 
-/// The vertices that have a direct predecessor with something remaining.
-fn held_back(task: &Task, remaining: &[u32; ENTRIES]) -> u16 {
+/// The vertices that are not done. "A vertex is done when nothing of it
+/// remains and all its direct predecessors are done" (document 02, M-103); so
+/// those with something remaining, and on from them along the edges.
+pub fn not_done(task: &Task, remaining: &[u32; ENTRIES]) -> u16 {
     let v = usize::from(task.v);
-    let unfinished = (0..v).filter(|h| remaining[*h] > 0);
-    unfinished.fold(0, |held, h| held | task.succ[h])
+    let some = (0..v).filter(|h| remaining[*h] > 0);
+    let mut open: u16 = some.fold(0, |open, h| open | 1 << h);
+    let mut todo = open;
+    while todo != 0 {
+        let next = task.succ[todo.trailing_zeros() as usize] & !open;
+        todo &= todo - 1;
+        todo |= next;
+        open |= next;
+    }
+    open
+}
+
+/// The direct successors of a set of vertices.
+fn successors(task: &Task, mut set: u16) -> u16 {
+    let mut to = 0;
+    while set != 0 {
+        to |= task.succ[set.trailing_zeros() as usize];
+        set &= set - 1;
+    }
+    to
+}
+
+/// The vertices that have a direct predecessor not done.
+pub fn held_back(task: &Task, remaining: &[u32; ENTRIES]) -> u16 {
+    successors(task, not_done(task, remaining))
+}
+
+/// The error that looks right: those with a direct predecessor of which
+/// something remains. A join of cost 0 then lets its successors go while a
+/// branch before it still runs.
+pub fn held_by_remaining(task: &Task, remaining: &[u32; ENTRIES]) -> u16 {
+    let some = (0..ENTRIES).filter(|h| remaining[*h] > 0);
+    successors(task, some.fold(0, |set, h| set | 1 << h))
 }
 
 /// What steps 4 to 6 give: the next state, the tasks finished, and the
@@ -262,7 +303,7 @@ pub fn go_on(table: &Table, released: &State, releases: u16, ran: &[Vertex]) -> 
         } else {
             released.tasks[i].wait().saturating_sub(1)
         };
-        let done = sixteen(&next.remaining, i).iter().all(|r| *r == 0);
+        let done = not_done(&table.tasks[i], sixteen(&next.remaining, i)) == 0;
         next.tasks[i] = match released.tasks[i] {
             Job::Live { deadline, .. } if !done => {
                 if deadline == next.clock {

@@ -84,13 +84,13 @@ fn read_task(bytes: &[u8], mark: usize, i: usize, table: &mut Table) -> Result<u
     need((1..=MOST_VERTICES).contains(&task.v), 3, mark + 2)?;
     let [e] = field(bytes, mark + 3)?;
     need(u32::from(e) <= MOST_EDGES, 3, mark + 3)?;
-    task.deadline = ticks(bytes, mark + 4)?;
-    task.period = ticks(bytes, mark + 8)?;
+    task.deadline = ticks(bytes, mark + 4, ticks_in_range)?;
+    task.period = ticks(bytes, mark + 8, ticks_in_range)?;
     need(task.deadline <= task.period, 5, mark + 8)?;
     let v = usize::from(task.v);
     let mut at = mark + 12;
     for cost in &mut table.costs[ENTRIES * i..][..v] {
-        *cost = ticks(bytes, at)?;
+        *cost = ticks(bytes, at, cost_in_range)?;
         at += 4;
     }
     at = read_edges(bytes, at, e, task)?;
@@ -113,11 +113,11 @@ fn read_edges(bytes: &[u8], mut at: usize, e: u8, task: &mut Task) -> Result<usi
     Ok(at)
 }
 
-/// D, T or a cost: 1 first, then 4.
+/// D, T or a cost: 1 first, then 4 by its own range.
 #[inline]
-fn ticks(bytes: &[u8], at: usize) -> Result<u32, Stop> {
+fn ticks(bytes: &[u8], at: usize, in_range: fn(u32) -> bool) -> Result<u32, Stop> {
     let number = u32::from_le_bytes(field(bytes, at)?);
-    need(ticks_in_range(number), 4, at)?;
+    need(in_range(number), 4, at)?;
     Ok(number)
 }
 

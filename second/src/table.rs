@@ -14,7 +14,7 @@ pub const MOST_PROCESSORS: u8 = 8;
 pub const MOST_TASKS: u8 = 16;
 pub const MOST_VERTICES: u8 = 16;
 pub const MOST_EDGES: u32 = 120;
-/// D, T and each cost lie from 1 to this many ticks.
+/// D and T lie from 1 to this many ticks, a cost from 0 (document 02, M-103).
 pub const MOST_TICKS: u32 = 1_000_000;
 
 /// One task's entry. The costs stand in the table's row.
@@ -85,8 +85,14 @@ pub fn need(holds: bool, number: u8, place: usize) -> Result<(), Stop> {
     }
 }
 
-/// Rule 4's range.
+/// Rule 4's range of D and T.
 #[inline]
 pub fn ticks_in_range(ticks: u32) -> bool {
     (1..=MOST_TICKS).contains(&ticks)
+}
+
+/// Rule 4's range of a cost.
+#[inline]
+pub fn cost_in_range(cost: u32) -> bool {
+    cost <= MOST_TICKS
 }

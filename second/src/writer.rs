@@ -47,7 +47,7 @@ fn check_task(task: &Task, costs: &[u32; ENTRIES], mark: usize) -> Result<usize,
     need(ticks_in_range(task.period), 4, mark + 8)?;
     need(task.deadline <= task.period, 5, mark + 8)?;
     for (h, cost) in costs[..v].iter().enumerate() {
-        need(ticks_in_range(*cost), 4, mark + 12 + 4 * h)?;
+        need(cost_in_range(*cost), 4, mark + 12 + 4 * h)?;
     }
     check_edges(task, mark + 12 + 4 * v)?;
     need(!has_cycle(&task.succ, v), 7, mark)?;

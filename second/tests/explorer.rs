@@ -132,8 +132,8 @@ fn all_very_small_tables() {
         }
         true
     });
-    // One task: 3 pairs of D and T, 2 + 4 * 3 + 8 * 25 costs with graphs; two
-    // tasks: 3 * (2 + 4 * 3) each; three counts of processors.
-    assert_eq!(count, 3 * (3 * 214 + 42 * 42));
+    // One task: 3 pairs of D and T, 3 + 9 * 3 + 27 * 25 costs with graphs; two
+    // tasks: 3 * (3 + 9 * 3) each; three counts of processors.
+    assert_eq!(count, 3 * (3 * 705 + 90 * 90));
     assert!(whole && accepted > 20, "{accepted}");
 }

@@ -19,6 +19,14 @@ fn lively(r: &mut Random) -> Table {
     }
 }
 
+/// "A vertex is done when nothing of it remains and all its direct predecessors
+/// are done" (document 02, M-103), by descent.
+fn is_done(table: &Table, state: &State, i: usize, h: usize) -> bool {
+    let edge = |p: usize| table.tasks[i].succ[p] >> h & 1 == 1;
+    state.remaining[16 * i + h] == 0
+        && (0..ENTRIES).all(|p| !edge(p) || is_done(table, state, i, p))
+}
+
 /// The state rule, told sentence by sentence in wide signed numbers.
 fn fits_plainly(table: &Table, state: &State) -> bool {
     let n = usize::from(table.n);
@@ -43,7 +51,7 @@ fn fits_plainly(table: &Table, state: &State) -> bool {
                 let left = (i64::from(deadline) - i64::from(state.clock)).rem_euclid(1 << 32);
                 let edge = |p: usize, h: usize| task.succ[p] >> h & 1 == 1;
                 let whole = |h: usize| {
-                    let held = (0..ENTRIES).any(|p| edge(p, h) && rest(p) > 0);
+                    let held = (0..ENTRIES).any(|p| edge(p, h) && !is_done(table, state, i, p));
                     !held || rest(h) == cost(h)
                 };
                 let unused = (usize::from(task.v)..ENTRIES).all(|h| rest(h) == 0);
@@ -91,11 +99,11 @@ fn runs_plainly(table: &Table, released: &State) -> Vec<Vertex> {
     let mut available = Vec::new();
     for i in 0..ENTRIES {
         for h in 0..ENTRIES {
-            let rest = |h: usize| released.remaining[16 * i + h];
+            let rest = released.remaining[16 * i + h];
             let edge = |p: usize| table.tasks[i].succ[p] >> h & 1 == 1;
-            let free = (0..ENTRIES).all(|p| !edge(p) || rest(p) == 0);
+            let free = (0..ENTRIES).all(|p| !edge(p) || is_done(table, released, i, p));
             if let Job::Live { deadline, .. } = released.tasks[i] {
-                if rest(h) > 0 && free {
+                if rest > 0 && free {
                     let left = deadline.wrapping_sub(released.clock);
                     available.push((left, i as u8, h as u8));
                 }

@@ -50,8 +50,14 @@ fn each_number_at_its_place() {
     }
     gives(&with(&[(7, &[121])]), 3, 7);
     gives(&with(&[(35, &[255])]), 3, 35);
-    for at in [8, 12, 16, 20, 24, 36, 40, 44, 48] {
+    // D and T from 1, a cost from 0.
+    for at in [8, 12, 36, 40] {
         gives(&with(&[(at, &[0, 0, 0, 0])]), 4, at);
+    }
+    for at in [16, 20, 24, 44, 48] {
+        gives(&with(&[(at, &[0, 0, 0, 0])]), 0, 0);
+    }
+    for at in [8, 12, 16, 20, 24, 36, 40, 44, 48] {
         gives(&with(&[(at, &above)]), 4, at);
         gives(&with(&[(at, &[255; 4])]), 4, at);
     }
@@ -89,7 +95,8 @@ fn order_of_the_tests() {
     gives(&with(&[(28, &ring)])[..32], 7, 4);
     gives(&with(&[(28, &ring)])[..31], 1, 30);
     // 8 comes last of all.
-    let longer = [&with(&[(48, &[0])])[..], &[1]].concat();
+    let above = 1_000_001u32.to_le_bytes();
+    let longer = [&with(&[(48, &above)])[..], &[1]].concat();
     gives(&longer, 4, 48);
     // A place in a second task's cycle is its own mark.
     let two = [

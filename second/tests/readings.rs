@@ -90,7 +90,7 @@ fn a3_ten_after_all_of_three_to_seven() {
     let mut table = table_a();
     table.costs[3] = 5;
     assert_eq!(put(&table, 0), (10, 0));
-    table.costs[17] = 0;
+    table.costs[17] = 1_000_001;
     assert_eq!(put(&table, 0), (4, 48));
     table.costs[17] = 2;
     table.costs[3] = 0;
@@ -311,8 +311,11 @@ fn a18_the_largest_margin() {
     let mut table = row_of(&[(MOST_TICKS, MOST_TICKS)]);
     table.m = 8;
     assert_eq!(figures(&table, 0).margin, 7_999_992);
+    // Reached since M-103: one vertex of cost 0.
+    table.costs[0] = 0;
+    assert_eq!(figures(&table, 0).margin, 8_000_000);
     let answer = verdict(&file(&table));
-    assert_eq!((answer.number, answer.margin), (0, 7_999_992));
+    assert_eq!((answer.number, answer.margin), (0, 8_000_000));
 }
 
 #[test]

@@ -104,7 +104,7 @@ fn cases_for_the_verdict() {
     }
     let margins = || answers.iter().map(|a| a.verdict.margin);
     assert_eq!(margins().min(), Some(-240_000_120_000_000));
-    assert_eq!(margins().max(), Some(7_999_992));
+    assert_eq!(margins().max(), Some(8_000_000));
     for (case, answer) in cases.iter().zip(&answers) {
         assert_eq!(judged(case), *answer);
     }

@@ -55,7 +55,9 @@ fn each_number_at_its_place() {
     assert_eq!(a_with(|t| t.tasks[0].period = 1_000_001), (4, 12));
     assert_eq!(a_with(|t| t.tasks[0].deadline = 13), (5, 12));
     assert_eq!(a_with(|t| t.tasks[1].period = 5), (5, 40));
-    assert_eq!(a_with(|t| t.costs[2] = 0), (4, 24));
+    assert_eq!(a_with(|t| t.costs[2] = 0), (0, 52));
+    assert_eq!(a_with(|t| t.costs[2] = 1_000_001), (4, 24));
+    assert_eq!(a_with(|t| t.costs[16] = 1_000_000), (0, 52));
     assert_eq!(a_with(|t| t.costs[17] = u32::MAX), (4, 48));
     assert_eq!(a_with(|t| t.tasks[0].succ[0] = 0b111), (6, 28));
     assert_eq!(a_with(|t| t.tasks[0].succ[0] = 0b1110), (6, 32));

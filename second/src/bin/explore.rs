@@ -1,6 +1,7 @@
 //! Explores tiny tables exhaustively and looks for a miss.
 
-use second::explore::{accepts, explore, small_tables, Found, KeySet, Rule, Step, Wrong};
+use second::explore::{accepts, explore_by, small_tables, Found, KeySet, Rule, Step, Wrong};
+use second::machine::{held_back, held_by_remaining, Held};
 use second::random::{tiny_table, Random};
 use second::table::{Table, ENTRIES};
 use std::process::ExitCode;
@@ -8,7 +9,7 @@ use std::time::{Duration, Instant};
 
 const USAGE: &str = "explore [--tables N] [--seconds S] [--small K] [--seed X] \
 [--processors M]
-        [--say-yes | --margin-less | --margin-less-m | --round-down]
+        [--say-yes | --margin-less | --margin-less-m | --round-down] [--nothing-remains]
   --tables N     random accepted tables to explore (default 250000)
   --seconds S    stop after S seconds (default: no limit)
   --small K      also all very small tables with numbers up to K (default 6, 0 for none)
@@ -17,7 +18,9 @@ const USAGE: &str = "explore [--tables N] [--seconds S] [--small K] [--seed X] \
   --say-yes      accept every table
   --margin-less  accept margins down to -1 (a miss on one processor only)
   --margin-less-m  accept margins down to -m (a miss on any number of processors)
-  --round-down   round D/T down in due";
+  --round-down   round D/T down in due
+  --nothing-remains  let a vertex go once nothing remains of its predecessors,
+                 done or not: a vertex runs before one that leads to it";
 
 struct Options {
     tables: u64,
@@ -26,6 +29,7 @@ struct Options {
     seed: u64,
     processors: Option<u8>,
     rule: Rule,
+    held: Held,
 }
 
 fn options() -> Result<Options, String> {
@@ -36,6 +40,7 @@ fn options() -> Result<Options, String> {
         seed: 1,
         processors: None,
         rule: Rule::Verdict,
+        held: held_back,
     };
     let mut words = std::env::args().skip(1);
     while let Some(word) = words.next() {
@@ -53,6 +58,7 @@ fn options() -> Result<Options, String> {
             "--say-yes" => options.rule = Rule::SayYes,
             "--margin-less" => options.rule = Rule::MarginLess,
             "--round-down" => options.rule = Rule::RoundDown,
+            "--nothing-remains" => options.held = held_by_remaining,
             _ => return Err(format!("{word} is unknown")),
         }
     }
@@ -62,6 +68,7 @@ fn options() -> Result<Options, String> {
 /// Sums over all tables so far.
 struct Tour {
     rule: Rule,
+    held: Held,
     begun: Instant,
     until: Option<Duration>,
     seen: KeySet,
@@ -85,7 +92,7 @@ impl Tour {
         if !accepts(self.rule, table) {
             return true;
         }
-        let found = explore(table, &mut self.seen);
+        let found = explore_by(table, self.held, &mut self.seen);
         self.tables += 1;
         self.states += found.states;
         self.ticks += found.ticks;
@@ -135,6 +142,7 @@ fn show(table: &Table, wrong: &Wrong, run: &[Step], found: &Found) {
         Wrong::Miss(task) => println!("MISS: task {task}"),
         Wrong::Chain(task) => println!("CHAIN TOO LONG: task {task}"),
         Wrong::Misfit => println!("THE STATE DOESN'T FIT"),
+        Wrong::Early(task) => println!("TOO EARLY: task {task}"),
     }
     let chains = found.chains_too_long;
     println!("{chains} chains too long were seen in this table before that");
@@ -163,6 +171,7 @@ fn main() -> ExitCode {
     };
     let mut tour = Tour {
         rule: options.rule,
+        held: options.held,
         begun: Instant::now(),
         until: options.seconds.map(Duration::from_secs),
         seen: KeySet::new(),

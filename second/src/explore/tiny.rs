@@ -7,7 +7,7 @@ use crate::table::*;
 type Lone = (Task, [u32; ENTRIES]);
 
 /// Calls `each` with all tables with up to 3 processors and numbers up to
-/// `most`: one task of up to 3 vertices, or two of up to 2 each, until `each`
+/// `most`, costs of 0 among them: one task of up to 3 vertices, or two of up to 2 each, until `each`
 /// says false. Gives whether it went through to the end.
 pub fn small_tables(most: u32, mut each: impl FnMut(&Table) -> bool) -> bool {
     let one = lone_tasks(3, most);
@@ -76,7 +76,7 @@ fn costs(v: usize, most: u32) -> Vec<[u32; ENTRIES]> {
     let mut rows = vec![[0; ENTRIES]];
     for h in 0..v {
         let longer = rows.iter().flat_map(|row| {
-            (1..=most).map(move |cost| {
+            (0..=most).map(move |cost| {
                 let mut row = *row;
                 row[h] = cost;
                 row

@@ -160,9 +160,7 @@ pub fn busy_table(r: &mut Random) -> Table {
         let deadline = r.range(1, 4 * most);
         table.tasks[i].deadline = deadline;
         table.tasks[i].period = deadline + r.pick(&[0, 0, 1, most]);
-        for h in 0..usize::from(table.tasks[i].v) {
-            table.costs[ENTRIES * i + h] = r.range(1, most);
-        }
+        super::costs(r, &mut table, i, |r| r.range(1, most));
     }
     table
 }

@@ -41,7 +41,8 @@ pub fn fitting(r: &mut Random, table: &Table) -> State {
     }
     for i in 0..usize::from(table.n) {
         let task = &table.tasks[i];
-        if task.deadline < 2 || r.one_in(3) {
+        let nothing = table.costs_of(i).iter().all(|cost| *cost == 0);
+        if task.deadline < 2 || nothing || r.one_in(3) {
             let wait = r.range(0, task.period - 1);
             state.tasks[i] = Job::Idle { wait };
             continue;
@@ -61,10 +62,10 @@ fn fill(r: &mut Random, table: &Table, i: usize, state: &mut State) {
     let row = ENTRIES * i..ENTRIES * (i + 1);
     state.remaining[row.clone()].copy_from_slice(&table.costs[row]);
     let v = usize::from(table.tasks[i].v);
-    for _ in 0..r.below(2 * v) {
+    for _ in 0..r.below(3 * v) {
         let h = r.below(v);
         let rest = sixteen(&state.remaining, i);
-        let free = (0..v).all(|p| table.tasks[i].succ[p] >> h & 1 == 0 || rest[p] == 0);
+        let free = held_back(&table.tasks[i], rest) >> h & 1 == 0;
         let others = (0..v).any(|p| p != h && rest[p] > 0);
         let was = rest[h];
         if free && was > 0 {

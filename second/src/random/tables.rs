@@ -6,13 +6,37 @@ use crate::graph::first;
 use crate::table::*;
 use crate::verdict::judge;
 
-/// Edges without a cycle on v vertices; `density` of 16 pairs are taken.
-pub fn random_edges(r: &mut Random, v: usize, density: usize) -> [u16; ENTRIES] {
+/// The first v numbers in any order.
+fn shuffled(r: &mut Random, v: usize) -> [usize; ENTRIES] {
     let mut order: [usize; ENTRIES] = std::array::from_fn(|h| h);
     for h in (1..v).rev() {
         let other = r.below(h + 1);
         order.swap(h, other);
     }
+    order
+}
+
+/// A start, branches, a join, branches again, and so on, on v vertices.
+fn forks_and_joins(r: &mut Random, v: usize) -> [u16; ENTRIES] {
+    let order = shuffled(r, v);
+    let mut succ = [0; ENTRIES];
+    let mut before = 0..1;
+    while before.end < v {
+        let wide = if before.len() > 1 { 1 } else { r.below(3) + 1 };
+        let next = before.end..(before.end + wide).min(v);
+        for from in before {
+            for to in next.clone() {
+                succ[order[from]] |= 1 << order[to];
+            }
+        }
+        before = next;
+    }
+    succ
+}
+
+/// Edges without a cycle on v vertices; `density` of 16 pairs are taken.
+pub fn random_edges(r: &mut Random, v: usize, density: usize) -> [u16; ENTRIES] {
+    let order = shuffled(r, v);
     let mut succ = [0; ENTRIES];
     for a in 0..v {
         for b in a + 1..v {
@@ -43,14 +67,53 @@ fn task(r: &mut Random, table: &mut Table, i: usize, v: usize) {
     let one = ticks(r);
     let other = if r.one_in(3) { one } else { ticks(r) };
     let density = any_density(r);
+    let succ = if r.one_in(3) {
+        forks_and_joins(r, v)
+    } else {
+        random_edges(r, v, density)
+    };
     table.tasks[i] = Task {
         v: v as u8,
         deadline: one.min(other),
         period: one.max(other),
-        succ: random_edges(r, v, density),
+        succ,
     };
+    costs(r, table, i, ticks);
+}
+
+/// Costs for the vertices of a task, by `some` or 0: none of them 0, any of
+/// them, each other one from the start (forks and joins, or their branches),
+/// those where nothing begins or ends, or all.
+pub fn costs(r: &mut Random, table: &mut Table, i: usize, some: impl Fn(&mut Random) -> u32) {
+    let task = &table.tasks[i];
+    let v = usize::from(task.v);
+    let entered = task.succ.iter().fold(0, |to, row| to | row);
+    let inner = |h: usize| task.succ[h] != 0 && entered >> h & 1 == 1;
+    let kind = r.below(10);
     for h in 0..v {
-        table.costs[ENTRIES * i + h] = ticks(r);
+        let nothing = match kind {
+            0 => true,
+            1 | 2 => r.coin(),
+            3 | 4 => steps(&task.succ, h) & 1 == 0,
+            5 => steps(&task.succ, h) & 1 == 1,
+            6 => inner(h),
+            _ => false,
+        };
+        table.costs[ENTRIES * i + h] = if nothing { 0 } else { some(r) };
+    }
+}
+
+/// The most edges that lead to a vertex one after the other.
+fn steps(succ: &[u16; ENTRIES], h: usize) -> usize {
+    let mut most = 0;
+    let mut ends: u16 = 1 << h;
+    loop {
+        let before = (0..ENTRIES).filter(|p| succ[*p] & ends != 0);
+        ends = before.fold(0, |set, p| set | 1 << p);
+        if ends == 0 {
+            return most;
+        }
+        most += 1;
     }
 }
 
@@ -81,9 +144,7 @@ pub fn largest_table(r: &mut Random) -> Table {
     for i in 0..ENTRIES {
         table.tasks[i].v = 16;
         table.tasks[i].succ = random_edges(r, 16, 16);
-        for h in 0..ENTRIES {
-            table.costs[ENTRIES * i + h] = ticks(r);
-        }
+        costs(r, &mut table, i, ticks);
     }
     table
 }
@@ -138,7 +199,7 @@ pub fn room(table: &mut Table, at: usize) -> u32 {
 }
 
 /// A tiny valid table: m, n and v at most 3, numbers at most 6. A roomy one
-/// has costs of 1 and leans to more tasks, vertices and ticks.
+/// has costs of 0 or 1 and leans to more tasks, vertices and ticks.
 pub fn tiny_table(r: &mut Random, roomy: bool) -> Table {
     let low = if roomy { 2 } else { 1 };
     let mut table = Table {
@@ -158,9 +219,7 @@ pub fn tiny_table(r: &mut Random, roomy: bool) -> Table {
             period,
             succ: random_edges(r, v, density),
         };
-        for h in 0..v {
-            table.costs[ENTRIES * i + h] = r.range(1, dear);
-        }
+        costs(r, &mut table, i, |r| r.range(1, dear));
     }
     table
 }

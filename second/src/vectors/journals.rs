@@ -1,7 +1,7 @@
 //! The stream of cases for the judge, and the answers.
 
 use super::{put_bytes, take_bytes};
-use crate::examples::TABLE_A;
+use crate::examples::{table_marks, TABLE_A};
 use crate::judge::{judge, put_row, Ruling};
 use crate::random::*;
 use crate::reader::read;
@@ -65,7 +65,9 @@ pub fn journal_summary(answers: &[Ruling]) -> String {
 pub fn journal_cases(seed: u64) -> Vec<JournalCase> {
     let r = &mut Random::new(seed);
     let mut cases = Vec::new();
-    cut_everywhere(r, &mut cases);
+    cut_everywhere(r, &TABLE_A, &mut cases);
+    cut_everywhere(r, &file(&table_marks()), &mut cases);
+    behind_a_miss(&mut cases);
     for round in 0..130 {
         let table = if round % 13 == 0 {
             largest_table(r)
@@ -86,10 +88,9 @@ pub fn journal_cases(seed: u64) -> Vec<JournalCase> {
     cases
 }
 
-/// A run of table A, cut at every byte, with each byte changed, and with a
-/// byte behind a miss.
-fn cut_everywhere(r: &mut Random, cases: &mut Vec<JournalCase>) {
-    let file = TABLE_A.to_vec();
+/// A run of a table, cut at every byte, and with each byte changed.
+fn cut_everywhere(r: &mut Random, file: &[u8], cases: &mut Vec<JournalCase>) {
+    let file = file.to_vec();
     let rows = legal_rows(r, &read(&file).table, 14).concat();
     for length in 0..=rows.len() {
         cases.push((file.clone(), rows[..length].to_vec()));
@@ -99,7 +100,11 @@ fn cut_everywhere(r: &mut Random, cases: &mut Vec<JournalCase>) {
         changed[at] ^= 1 << r.below(8);
         cases.push((file.clone(), changed));
     }
-    let mut late = read(&file).table;
+}
+
+/// Bytes behind a miss of table A with a shorter deadline.
+fn behind_a_miss(cases: &mut Vec<JournalCase>) {
+    let mut late = read(&TABLE_A).table;
     late.tasks[0].deadline = 1;
     let late = crate::random::file(&late);
     let mut journal = Vec::new();

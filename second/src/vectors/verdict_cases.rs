@@ -1,6 +1,6 @@
 //! Cases for the verdict and the report.
 
-use crate::examples::{plain_task, table_p5, TABLE_A};
+use crate::examples::{plain_task, table_marks, table_p5, TABLE_A};
 use crate::random::*;
 use crate::reader::read;
 use crate::table::*;
@@ -21,6 +21,7 @@ fn nudge(r: &mut Random, table: &mut Table) {
         1 | 2 => task.deadline = near(r, task.deadline).min(task.period),
         3 => task.period = near(r, task.period).max(task.deadline),
         4 => table.costs[at] = ticks(r),
+        5 => table.costs[at] = 0,
         _ => table.costs[at] = near(r, table.costs[at]),
     }
 }
@@ -92,9 +93,16 @@ fn extreme_cases(cases: &mut Vec<Vec<u8>>) {
     for m in 1..=8 {
         cases.push(file(&Table { m, ..lowest }));
     }
-    // The highest: one vertex of cost 1, D = T as large as can be.
+    // The highest: one vertex of cost 0, D = T as large as can be.
     for m in 1..=8 {
-        for (cost, deadline) in [(1, MOST_TICKS), (MOST_TICKS, MOST_TICKS), (1, 1), (2, 1)] {
+        for (cost, deadline) in [
+            (0, MOST_TICKS),
+            (1, MOST_TICKS),
+            (MOST_TICKS, MOST_TICKS),
+            (0, 1),
+            (1, 1),
+            (2, 1),
+        ] {
             let mut table = Table::ZERO;
             (table.m, table.n) = (m, 1);
             plain_task(&mut table, 0, deadline, MOST_TICKS, &[cost]);
@@ -186,6 +194,7 @@ pub fn verdict_cases(seed: u64) -> Vec<Vec<u8>> {
     let mut one = TABLE_A.to_vec();
     one[2] = 1;
     cases.push(one);
+    about(r, &table_marks(), 40, &mut cases);
     edge_cases(r, &mut cases);
     task_cases(r, &mut cases);
     extreme_cases(&mut cases);

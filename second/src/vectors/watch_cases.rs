@@ -1,16 +1,17 @@
 //! Cases for the watch program.
 
-use crate::examples::TABLE_A;
+use crate::examples::{table_marks, TABLE_A};
 use crate::random::*;
 use crate::watch::Run;
 
-/// Inputs: table A's examples, one cut short at every place, random runs, and
-/// some of large tables.
+/// Inputs: table A's examples, one cut short at every place, a table with marks
+/// of cost 0, random runs, and some of large tables.
 pub fn watch_cases(seed: u64) -> Vec<Vec<u8>> {
     let r = &mut Random::new(seed);
     let by_hand = by_hand(0);
     let mut cases: Vec<Vec<u8>> = (0..=by_hand.len()).map(|n| by_hand[..n].to_vec()).collect();
     cases.push(self::by_hand(4_294_967_286));
+    cases.extend([0, 4_294_967_290].map(marks));
     cases.extend(lengths(&by_hand));
     cases.extend(second_edges(&by_hand));
     while cases.len() < 500 {
@@ -45,6 +46,21 @@ fn by_hand(clock: u32) -> Vec<u8> {
         table: TABLE_A.to_vec(),
         clock,
         releases: vec![3, 0, 0, 0, 0, 2, 0, 2, 0x8001, 0, 0, 0, 0, 0, 3],
+    };
+    run.input()
+}
+
+/// The table of marks: all released, one by one, and again.
+fn marks(clock: u32) -> Vec<u8> {
+    let mut releases = vec![7, 0, 0, 0, 4];
+    releases.resize(10, 0);
+    releases.extend([4, 0, 2, 0]);
+    releases.resize(24, 0);
+    releases.extend([7, 0, 2]);
+    let run = Run {
+        table: file(&table_marks()),
+        clock,
+        releases,
     };
     run.input()
 }
