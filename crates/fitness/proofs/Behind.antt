@@ -6,15 +6,15 @@ use Prim.Native.Nat.{ℕ, _+_, _*_, _%_, _^_, _≤_, _<_}
 use native.Mathlib.Omega.{arith}
 use native.Mathlib.Nat.{mod-lt}
 use native.Mathlib.Numerals.{add-one}
-use lib.ListN.{length, getD}
+use lib.ListN.{getD}
 use lib.Dec.{ltb, eqb, lit<}
 use lib.Bits.{bitOr, or-lt}
 use borrow.Author.Tests.{lt-ltb, le-ltb, eq-eqb, ne-eqb}
 use Rattle.graph.specs.Words.{bit, all, setOf}
-use Rattle.graph.proofs.Facts.{clash, and-true, all-at, past-end, off-when}
+use Rattle.graph.proofs.Facts.{clash, and-true, all-at, off-when}
 use Rattle.graph.proofs.Bits.{bit-zero}
 use Rattle.graph.proofs.Sets.{set-is, one-more, one-below}
-use Rattle.fitness.specs.Fitness.{at}
+use Rattle.fitness.specs.Fitness.{at, somethingLeft}
 pub use Rattle.graph.proofs.Facts.{all-same}
 
 -- ---- a test of each number below n
@@ -79,14 +79,23 @@ module _ (rest : List ℕ) (i : ℕ) where
         without false true = refl
         without false false = refl
 
-  pub gathered-all : (u set : ℕ) → u ≡ 16 → Gathered u set → set ≡ setOf 16 (λ k. not (eqb (at rest i k) 0))
-  gathered-all u set e g =
-      set-is 16 set _ (g .small) (λ k h. g .own k ∙ ap (λ (b : Bool). b && not (eqb (at rest i k) 0)) (lt-ltb k u (omega arith)))
+  pub gathered-all : (u set : ℕ) → i < 16 → u ≡ 16 → Gathered u set → set ≡ setOf 16 (somethingLeft rest i)
+  unfolding somethingLeft
+  gathered-all u set h e g =
+      set-is 16 set (λ k. ltb i 16 && not (eqb (at rest i k) 0)) (g .small)
+      (λ k b. g .own k ∙ ap (λ (c : Bool). c && not (eqb (at rest i k) 0)) (lt-ltb k u (omega arith) ∙ sym (lt-ltb i 16 h)))
 
   -- past the sixteen tasks there is nothing
-  pub gathered-past : length rest ≡ 256 → 16 ≤ i → 0 ≡ setOf 16 (λ k. not (eqb (at rest i k) 0))
-  gathered-past l h =
-      set-is 16 0 _ (omega arith) (λ k b. bit-zero k ∙ sym (ap not (eq-eqb (at rest i k) 0 (past-end rest (16 * i + k) 0 (omega arith)))))
+  pub gathered-past : 16 ≤ i → 0 ≡ setOf 16 (somethingLeft rest i)
+  unfolding somethingLeft
+  gathered-past h =
+      set-is 16 0 (λ k. ltb i 16 && not (eqb (at rest i k) 0)) (omega arith)
+      (λ k b. bit-zero k ∙ sym (ap (λ (c : Bool). c && not (eqb (at rest i k) 0)) (le-ltb i 16 h)))
+
+  -- of one of the sixteen
+  pub left-in : i < 16 → (set : ℕ) → set ≡ setOf 16 (somethingLeft rest i) → set ≡ setOf 16 (λ k. not (eqb (at rest i k) 0))
+  unfolding somethingLeft
+  left-in h set e = e ∙ ap (λ (c : Bool). setOf 16 (λ k. c && not (eqb (at rest i k) 0))) (lt-ltb i 16 h)
 
 -- ---- the vertices of a set that have their whole cost remaining
 module _ (set u left cost : ℕ) where

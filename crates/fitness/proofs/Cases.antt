@@ -81,13 +81,12 @@ module _ (a : Task) (costs : List ℕ) (left wait : ℕ) (rest : List ℕ) (i : 
 pub whole-behind : (a : Task) (costs rest : List ℕ) (i v unfinished behind : ℕ) → v ≡ used (a .v) → unfinished ≡ setOf 16 (λ u. not (eqb (at rest i u) 0))
     → behind ≡ setOf 16 (heldBack (min v 16) (edge (a .succ)) (λ u. flag (bit unfinished u)))
     → all v (λ u. not (bit behind u) || eqb (at rest i u) (at costs i u)) ≡ wholeBehind a costs rest i
-unfolding wholeBehind
+unfolding wholeBehind clear heldBack
 whole-behind a costs rest i v unfinished behind e o h =
     let m : min v 16 ≡ used (a .v) = omega arith in
     rw e (all-same (used (a .v)) _ _ (λ u b. ap (λ (x : Bool). x || eqb (at rest i u) (at costs i u)) (clear-bit m u (omega arith))))
   where
     clear-bit : min v 16 ≡ used (a .v) → (u : ℕ) → u < 16 → not (bit behind u) ≡ clear a rest i u
-    unfolding clear heldBack
     clear-bit m u b =
         ap (λ (n : ℕ). not (bit n u)) h
         ∙ ap not (bit-set 16 (heldBack (min v 16) (edge (a .succ)) (λ u. flag (bit unfinished u))) u b)

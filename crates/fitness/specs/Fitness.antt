@@ -17,6 +17,10 @@ at row i u = getD row (16 * i + u) 0
 unfoldable pub nothingLeft : List ℕ → ℕ → Bool
 nothingLeft rest i = leb 16 i || all 16 (λ u. eqb (at rest i u) 0)
 
+-- something remains of vertex u of task i
+unfoldable pub somethingLeft : List ℕ → ℕ → ℕ → Bool
+somethingLeft rest i u = ltb i 16 && not (eqb (at rest i u) 0)
+
 -- "no remaining above its cost"; the cost of a vertex that is not used is 0
 unfoldable pub withinCost : List ℕ → List ℕ → ℕ → Bool
 withinCost costs rest i = all 16 (λ u. leb (at rest i u) (at costs i u))

@@ -4,7 +4,7 @@ ghost use mathlib.Core.Bool.{_||_, not};
 ghost use Prim.Native.Nat.{ℕ, _≤_, _<_, min};
 ghost use lib.Dec.{eqb};
 ghost use Rattle.graph.specs.Words.{bit, all, setOf};
-ghost use Rattle.fitness.specs.Fitness.{at, nothingLeft, withinCost, liveFits, idleFits, zeroTask, taskFits};
+ghost use Rattle.fitness.specs.Fitness.{at, nothingLeft, somethingLeft, withinCost, liveFits, idleFits, zeroTask, taskFits};
 use table::Task;
 
 // Whether nothing remains of task i.
@@ -24,7 +24,7 @@ pub fn nothing_left(remaining: &[u32; 256], i: usize) -> bool
 
 // The vertices of task i of which something remains.
 pub fn unfinished(remaining: &[u32; 256], i: usize) -> u16
-    ensures { λ r. ⌜ r ≡ setOf 16 (λ u. not (eqb (at (now (remaining .entry)) i u) 0)) ⌝ }
+    ensures { λ r. ⌜ r ≡ setOf 16 (somethingLeft (now (remaining .entry)) i) ⌝ }
 {
     if i >= 16 {
         return 0;
