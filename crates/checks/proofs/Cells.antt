@@ -19,9 +19,9 @@ byte-as lo hi s at x r e =
     let i = cell-in s at x r e in
     rw (le-leb (at + 1) (length s) (omega arith), cell s at x r e)
 
-pub ticks-as : (s : List ℕ) (at x : ℕ) (r : List ℕ) → x < 2 ^ 32 → drop at s ≡ bytes4 x ++ r → ticksAt s at ≡ ranged Ticks 1 1000000 at x
+pub ticks-as : (lo : ℕ) (s : List ℕ) (at x : ℕ) (r : List ℕ) → x < 2 ^ 32 → drop at s ≡ bytes4 x ++ r → ticksAt lo s at ≡ ranged Ticks lo 1000000 at x
 unfolding ticksAt field
-ticks-as s at x r h e = rw (le-leb (at + 4) (length s) (four-in s at x r e), four-value s at x r h e)
+ticks-as lo s at x r h e = rw (le-leb (at + 4) (length s) (four-in s at x r e), four-value s at x r h e)
 
 -- an edge whose key is at least `low` and has its from below v
 pub edge-as : (v low : ℕ) (s : List ℕ) (at k : ℕ) (r : List ℕ) → low ≤ k → k < 16 * v → drop at s ≡ k / 16 ∷ k % 16 ∷ r

@@ -129,8 +129,8 @@ module _ (t : Table) (typed : Typed t) where
       let rest : List ℕ = joinFrom k (suc j) (λ u. bytes4 (cost t i u)) ++ r in
       let e₂ : drop at s ≡ bytes4 (cost t i j) ++ rest = e ∙ append-assoc (bytes4 (cost t i j)) (joinFrom k (suc j) (λ u. bytes4 (cost t i u))) r in
       let q : 16 * i + suc j ≡ 16 * i + j + 1 = omega arith in
-      rw (ticks-as s at (cost t i j) rest (typed .cost-word (16 * i + j)) e₂)
-      (go (ranged Ticks 1 1000000 at (cost t i j))
+      rw (ticks-as 0 s at (cost t i j) rest (typed .cost-word (16 * i + j)) e₂)
+      (go (ranged Ticks 0 1000000 at (cost t i j))
       (λ x. costs-as s i k (at + 4) (suc j) (u + 1) (set own u x) r (next-four s at (cost t i j) rest e₂) ∙ ap (costsTested (t .costs) k (at + 4)) q))
     where
       go : (f : Field) → ((x : ℕ) → costsAt s k (at + 4) (u + 1) (set own u x) .outcome ≡ costsTested (t .costs) k (at + 4) (16 * i + j + 1))
@@ -203,9 +203,9 @@ module _ (t : Table) (typed : Typed t) where
         (agree-ranged out next badTask out-task Range range-bad 1 16 (at + 2) v end _ _ (λ l₁ h₁.
         rw (byte-as 0 120 s (at + 3) (length ks) _ b₃)
         (agree-ranged out next badTask out-task Range range-bad 0 120 (at + 3) (length ks) end _ _ (λ l₂ h₂.
-        rw (ticks-as s (at + 4) (D t i) _ (typed .D-word i) b₄)
+        rw (ticks-as 1 s (at + 4) (D t i) _ (typed .D-word i) b₄)
         (agree-ranged out next badTask out-task Ticks ticks-bad 1 1000000 (at + 4) (D t i) end _ _ (λ l₃ h₃.
-        rw (ticks-as s (at + 8) (T t i) _ (typed .T-word i) b₈)
+        rw (ticks-as 1 s (at + 8) (T t i) _ (typed .T-word i) b₈)
         (agree-period out next badTask out-task (D t i) (at + 8) (T t i) end _ _ (parts-as (D t i) (T t i) h₁))))))))
 
   how-long : (i : ℕ) → length (encodeTask t i) ≡ 12 + 4 * vertices t i + 2 * length (keysOf (vertices t i) (succ t i))

@@ -74,17 +74,13 @@ module _ (outside : ℕ → Outcome) (lo hi at x : ℕ) where
 
 -- ---- costs
 module _ (costs : List ℕ) (k j p slot : ℕ) (e : k ≡ suc j) where
-  pub costs-under : getD costs slot 0 < 1 → Ticks p ≡ costsTested costs k p slot
-  unfolding costsTested
-  costs-under h = rw (e, under Ticks 1 1000000 p (getD costs slot 0) h)
-
   pub costs-over : 1000000 < getD costs slot 0 → Ticks p ≡ costsTested costs k p slot
   unfolding costsTested
-  costs-over h = rw (e, over Ticks 1 1000000 p (getD costs slot 0) h)
+  costs-over h = rw (e, over Ticks 0 1000000 p (getD costs slot 0) h)
 
-  pub costs-more : (slot′ : ℕ) → slot′ ≡ slot + 1 → 1 ≤ getD costs slot 0 → getD costs slot 0 ≤ 1000000 → costsTested costs j (p + 4) slot′ ≡ costsTested costs k p slot
+  pub costs-more : (slot′ : ℕ) → slot′ ≡ slot + 1 → getD costs slot 0 ≤ 1000000 → costsTested costs j (p + 4) slot′ ≡ costsTested costs k p slot
   unfolding costsTested
-  costs-more slot′ q h l = rw (e, q, within Ticks 1 1000000 p (getD costs slot 0) h l)
+  costs-more slot′ q l = rw (e, q, within Ticks 0 1000000 p (getD costs slot 0) (omega arith) l)
 
 pub costs-end : (costs : List ℕ) (k p slot : ℕ) → k ≡ 0 → Read ≡ costsTested costs k p slot
 unfolding costsTested

@@ -43,11 +43,11 @@ unfoldable pub edgesTested : ℕ → List ℕ → ℕ → Checked
 edgesTested v [] at = record { outcome = Read; next = at }
 edgesTested v (key ∷ ks) at = onward (edgeTested v key at) stopped λ _. edgesTested v ks (at + 2)
 
--- 4: k costs from a slot of the row on, "1 to 1,000,000 ticks"
+-- 4: k costs from a slot of the row on; M-103: "for a cost, 4 now means above 1,000,000"
 unfoldable pub costsTested : List ℕ → ℕ → ℕ → ℕ → Outcome
 costsTested costs zero at slot = Read
 costsTested costs (suc k) at slot =
-    onward (ranged Ticks 1 1000000 at (getD costs slot 0)) (λ o. o) λ _. costsTested costs k (at + 4) (slot + 1)
+    onward (ranged Ticks 0 1000000 at (getD costs slot 0)) (λ o. o) λ _. costsTested costs k (at + 4) (slot + 1)
 
 -- 7: the graph of the first v vertices; what stands from v on is an unused entry
 unfoldable pub usedRows : ℕ → List ℕ → List ℕ

@@ -41,9 +41,6 @@ fn costs_tested(costs: &[u32; 256], slot: usize, v: usize, at: usize) -> Outcome
     let mut u: usize = 0;
     while u < v {
         let x = costs[slot + u];
-        if x < 1 {
-            return Outcome::Ticks(p);
-        }
         if 1_000_000 < x {
             return Outcome::Ticks(p);
         }

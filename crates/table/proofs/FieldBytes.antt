@@ -83,9 +83,9 @@ digits x a b c d ha hb hc hd e =
     let q₃ = over₃ x (a + 256 * b + 65536 * c) d (omega arith) (omega arith) in
     (digit x a (b + 256 * c + 65536 * d) ha (omega arith), digit (x / 256) b (c + 256 * d) hb (omega arith), digit (x / 65536) c d hc (omega arith), digit (x / 16777216) d 0 hd (omega arith))
 
-pub ticks-bytes : (s : List ℕ) (at x : ℕ) → Bytes s → ticksAt s at ≡ Got x → drop at s ≡ bytes4 x ++ drop (at + 4) s
+pub ticks-bytes : (lo : ℕ) (s : List ℕ) (at x : ℕ) → Bytes s → ticksAt lo s at ≡ Got x → drop at s ≡ bytes4 x ++ drop (at + 4) s
 unfolding ticksAt ranged value4 bytes4
-ticks-bytes s at x b e =
+ticks-bytes lo s at x b e =
     let f = field-got 4 s at _ x e in
     let l = f .0 in
     let a₀ = getD s at 0 in
@@ -93,7 +93,7 @@ ticks-bytes s at x b e =
     let a₂ = getD s (at + 2) 0 in
     let a₃ = getD s (at + 3) 0 in
     let y : ℕ = a₀ + 256 * a₁ + 65536 * a₂ + 16777216 * a₃ in
-    let p : y ≡ x = pick-got (leb 1 y && leb y 1000000) y (Ticks at) x (f .1) .1 in
+    let p : y ≡ x = pick-got (leb lo y && leb y 1000000) y (Ticks at) x (f .1) .1 in
     let h₀ = b at in
     let h₁ = b (at + 1) in
     let h₂ = b (at + 2) in
@@ -109,9 +109,9 @@ ticks-bytes s at x b e =
     let n₃ = next s (at + 3) (omega arith) ∙ ap (λ (z : List ℕ). a₃ ∷ z) (at-sum s (at + 3 + 1) (at + 4) (omega arith)) in
     n₀ ∙ cc
 
-pub period-is : (d : ℕ) (s : List ℕ) (at t : ℕ) → periodAt d s at ≡ Got t → ticksAt s at ≡ Got t
+pub period-is : (d : ℕ) (s : List ℕ) (at t : ℕ) → periodAt d s at ≡ Got t → ticksAt 1 s at ≡ Got t
 unfolding periodAt notUnder
-period-is d s at t e = go (ticksAt s at) e
+period-is d s at t e = go (ticksAt 1 s at) e
   where
     go : (f : Field) → notUnder d at f ≡ Got t → f ≡ Got t
     go (Stop o) e = stop-got o t e

@@ -83,10 +83,10 @@ four-value s at x r h e =
     let d : getD s (at + 3) 0 ≡ x / 16777216 % 256 = sym (getD-drop at s 3 0) ∙ ap (λ (z : List ℕ). getD z 3 0) e in
     digits x (getD s at 0) (getD s (at + 1) 0) (getD s (at + 2) 0) (getD s (at + 3) 0) h a b c d
 
-pub read-ticks : (s : List ℕ) (at x : ℕ) (r : List ℕ) → 1 ≤ x → x ≤ 1000000 → drop at s ≡ bytes4 x ++ r → ticksAt s at ≡ Got x
+pub read-ticks : (lo : ℕ) (s : List ℕ) (at x : ℕ) (r : List ℕ) → lo ≤ x → x ≤ 1000000 → drop at s ≡ bytes4 x ++ r → ticksAt lo s at ≡ Got x
 unfolding ticksAt ranged field
-read-ticks s at x r l h e =
-    rw (le-leb (at + 4) (length s) (four-in s at x r e), four-value s at x r (omega arith) e, le-leb 1 x l, le-leb x 1000000 h)
+read-ticks lo s at x r l h e =
+    rw (le-leb (at + 4) (length s) (four-in s at x r e), four-value s at x r (omega arith) e, le-leb lo x l, le-leb x 1000000 h)
 
 pub next-four : (s : List ℕ) (at x : ℕ) (r : List ℕ) → drop at s ≡ bytes4 x ++ r → drop (at + 4) s ≡ r
 unfolding bytes4

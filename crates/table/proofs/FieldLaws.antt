@@ -100,20 +100,20 @@ module _ (lo hi : ℕ) (s : List ℕ) (at : ℕ) where
       (r .0, q .1, q .2)
 
 -- ---- D, T or a cost
-module _ (s : List ℕ) (at : ℕ) where
-  pub ticks-short : length s < at + 4 → Stop (Short at) ≡ ticksAt s at
+module _ (lo : ℕ) (s : List ℕ) (at : ℕ) where
+  pub ticks-short : length s < at + 4 → Stop (Short at) ≡ ticksAt lo s at
   unfolding ticksAt
   ticks-short h = field-short 4 s at _ h
 
-  pub ticks-within : (x : ℕ) (f : Field) → at + 4 ≤ length s → x ≡ value4 s at → f ≡ ranged Ticks 1 1000000 at x → f ≡ ticksAt s at
+  pub ticks-within : (x : ℕ) (f : Field) → at + 4 ≤ length s → x ≡ value4 s at → f ≡ ranged Ticks lo 1000000 at x → f ≡ ticksAt lo s at
   unfolding ticksAt
-  ticks-within x f h q e = field-within 4 s at _ f h (e ∙ ap (ranged Ticks 1 1000000 at) q)
+  ticks-within x f h q e = field-within 4 s at _ f h (e ∙ ap (ranged Ticks lo 1000000 at) q)
 
-  pub ticks-read : (f : Field) (x : ℕ) → f ≡ ticksAt s at → f ≡ Got x → (at + 4 ≤ length s) × (1 ≤ x) × (x ≤ 1000000)
+  pub ticks-read : (f : Field) (x : ℕ) → f ≡ ticksAt lo s at → f ≡ Got x → (at + 4 ≤ length s) × (lo ≤ x) × (x ≤ 1000000)
   unfolding ticksAt
   ticks-read f x h e =
       let r = field-read 4 s at _ x (sym h ∙ e) in
-      let q = ranged-read Ticks 1 1000000 at (value4 s at) x (r .1) in
+      let q = ranged-read Ticks lo 1000000 at (value4 s at) x (r .1) in
       (r .0, q .1, q .2)
 
 -- a refusal is never success
@@ -135,9 +135,9 @@ byte-refused lo hi s at e = go (leb (at + 1) (length s)) (leb lo (getD s at 0) &
     go true false e = let z : _≡_ {A = ℕ} 0 1 = cc in omega arith
     go false b e = let z : _≡_ {A = ℕ} 0 1 = cc in omega arith
 
-pub ticks-refused : (s : List ℕ) (at : ℕ) → ticksAt s at ≡ Stop Read → ⊥
+pub ticks-refused : (lo : ℕ) (s : List ℕ) (at : ℕ) → ticksAt lo s at ≡ Stop Read → ⊥
 unfolding ticksAt field ranged
-ticks-refused s at e = go (leb (at + 4) (length s)) (leb 1 (value4 s at) && leb (value4 s at) 1000000) e
+ticks-refused lo s at e = go (leb (at + 4) (length s)) (leb lo (value4 s at) && leb (value4 s at) 1000000) e
   where
     go : (a b : Bool) → pick a (pick b (Got (value4 s at)) (Stop (Ticks at))) (Stop (Short at)) ≡ Stop Read → ⊥
     go true true e = let z : _≡_ {A = ℕ} 0 1 = cc in omega arith
@@ -145,7 +145,7 @@ ticks-refused s at e = go (leb (at + 4) (length s)) (leb 1 (value4 s at) && leb 
     go false b e = let z : _≡_ {A = ℕ} 0 1 = cc in omega arith
 
 -- ---- T, by what its ticks gave
-module _ (d : ℕ) (s : List ℕ) (at : ℕ) (f : Field) (h : f ≡ ticksAt s at) where
+module _ (d : ℕ) (s : List ℕ) (at : ℕ) (f : Field) (h : f ≡ ticksAt 1 s at) where
   pub period-stop : (o : Outcome) → f ≡ Stop o → Stop o ≡ periodAt d s at
   unfolding periodAt notUnder
   period-stop o e = rw (← h, e)
@@ -172,8 +172,8 @@ under-read d at t (Got x) e = go (leb d x) refl e
 pub period-read : (d : ℕ) (s : List ℕ) (at : ℕ) (f : Field) (t : ℕ) → f ≡ periodAt d s at → f ≡ Got t → (at + 4 ≤ length s) × (t ≤ 1000000) × (d ≤ t)
 unfolding periodAt
 period-read d s at f t h e =
-    let u = under-read d at t (ticksAt s at) (sym h ∙ e) in
-    let r = ticks-read s at (ticksAt s at) t refl (u .0) in
+    let u = under-read d at t (ticksAt 1 s at) (sym h ∙ e) in
+    let r = ticks-read 1 s at (ticksAt 1 s at) t refl (u .0) in
     (r .0, r .2, u .1)
 
 -- ---- an edge

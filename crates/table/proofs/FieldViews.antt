@@ -64,16 +64,16 @@ pub byte-view : (lo hi : ℕ) (s : List ℕ) (at : ℕ) → View (byteAt lo hi s
 unfolding byteAt number
 byte-view lo hi s at = field-view (Between lo hi) 1 s at _ (ranged-view Range lo hi at (getD s at 0) (bad-by (Range at) 2 refl))
 
-pub ticks-view : (s : List ℕ) (at : ℕ) → View (ticksAt s at) (Between 1 1000000)
+pub ticks-view : (lo : ℕ) (s : List ℕ) (at : ℕ) → View (ticksAt lo s at) (Between lo 1000000)
 unfolding ticksAt number
-ticks-view s at = field-view (Between 1 1000000) 4 s at _ (ranged-view Ticks 1 1000000 at (value4 s at) (bad-by (Ticks at) 3 refl))
+ticks-view lo s at = field-view (Between lo 1000000) 4 s at _ (ranged-view Ticks lo 1000000 at (value4 s at) (bad-by (Ticks at) 3 refl))
 
 abbrev pub Period : ℕ → ℕ → Type 0
 Period d t = (1 ≤ t) × (t ≤ 1000000) × (d ≤ t)
 
 pub period-view : (d : ℕ) (s : List ℕ) (at : ℕ) → View (periodAt d s at) (Period d)
 unfolding periodAt notUnder number
-period-view d s at = go (ticksAt s at) (ticks-view s at)
+period-view d s at = go (ticksAt 1 s at) (ticks-view 1 s at)
   where
     go : (f : Field) → View f (Between 1 1000000) → View (notUnder d at f) (Period d)
     go f (value x e b) = rw e (pick-view (Period d) (leb d x) x (Order at) (bad-by (Order at) 4 refl) (λ h. (b .0, b .1, leb-true d x h)))

@@ -107,7 +107,6 @@ full-task i h =
       T-low = omega arith;
       T-high = omega arith;
       D-T = omega arith;
-      cost-low = λ u l. let c = full-cost i u h (omega arith) in omega arith;
       cost-high = λ u l. let c = full-cost i u h (omega arith) in omega arith;
       ends = λ u w e.
           let o = full-ends u w (subst (λ (l : List ℕ). edge l u w ≡ true) g e) in

@@ -20,7 +20,7 @@ pub costs-end : (s : List ℕ) (k at u : ℕ) (costs : List ℕ) → k ≡ 0 →
 unfolding costsAt
 costs-end s k at u costs h = rw h
 
-module _ (s : List ℕ) (k at u : ℕ) (costs : List ℕ) (j : ℕ) (more : k ≡ suc j) (f : Field) (h : f ≡ ticksAt s at) where
+module _ (s : List ℕ) (k at u : ℕ) (costs : List ℕ) (j : ℕ) (more : k ≡ suc j) (f : Field) (h : f ≡ ticksAt 0 s at) where
   pub costs-stop : (o : Outcome) → f ≡ Stop o → record { outcome = o; costs = costs } ≡ costsAt s k at u costs
   unfolding costsAt
   costs-stop o e = rw (more, ← h, e)
@@ -60,16 +60,16 @@ pub told-other : (o : Outcome) → OneOf (1 ∷ 2 ∷ 3 ∷ 4 ∷ 5 ∷ 6 ∷ 7 
 told-other o k e = miss (1 ∷ 2 ∷ 3 ∷ 4 ∷ 5 ∷ 6 ∷ 7 ∷ 8 ∷ []) 0 tt (rw e at k)
 
 -- ---- costs that were read lie within the input
-after-ticks : (s : List ℕ) (k at : ℕ) (f : Field) (costs : List ℕ) (go : ℕ → CostsRead) → ticksAt s at ≡ f
+after-ticks : (s : List ℕ) (k at : ℕ) (f : Field) (costs : List ℕ) (go : ℕ → CostsRead) → ticksAt 0 s at ≡ f
     → ((x : ℕ) → at + 4 ≤ length s → go x .outcome ≡ Read → at + 4 + 4 * k ≤ length s)
     → onward f (λ o. record { outcome = o; costs = costs }) go .outcome ≡ Read → at + 4 + 4 * k ≤ length s
-after-ticks s k at (Stop o) costs go h step e = absurd (ticks-refused s at (h ∙ ap Stop e))
-after-ticks s k at (Got x) costs go h step e = step x (ticks-read s at (ticksAt s at) x refl h .0) e
+after-ticks s k at (Stop o) costs go h step e = absurd (ticks-refused 0 s at (h ∙ ap Stop e))
+after-ticks s k at (Got x) costs go h step e = step x (ticks-read 0 s at (ticksAt 0 s at) x refl h .0) e
 
 pub costs-within : (s : List ℕ) (k at u : ℕ) (costs : List ℕ) → at ≤ length s → costsAt s k at u costs .outcome ≡ Read → at + 4 * k ≤ length s
 unfolding costsAt
 costs-within s zero at u costs h e = omega arith
 costs-within s (suc k) at u costs h e =
-    let l = after-ticks s k at (ticksAt s at) costs (λ x. costsAt s k (at + 4) (u + 1) (set costs u x)) refl
+    let l = after-ticks s k at (ticksAt 0 s at) costs (λ x. costsAt s k (at + 4) (u + 1) (set costs u x)) refl
     (λ x w r. costs-within s k (at + 4) (u + 1) (set costs u x) w r) e in
     omega arith

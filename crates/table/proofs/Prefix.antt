@@ -83,14 +83,14 @@ module _ (b : ℕ) (s r : List ℕ) (a : Alike b s r) where
   unfolding byteAt field ranged
   byte-both lo hi at h = rw (a .within (at + 1) h, a .same at (omega arith))
 
-  ticks-both : (at : ℕ) → at + 4 ≤ b → ticksAt s at ≡ ticksAt r at
+  ticks-both : (lo at : ℕ) → at + 4 ≤ b → ticksAt lo s at ≡ ticksAt lo r at
   unfolding ticksAt field ranged value4
-  ticks-both at h =
+  ticks-both lo at h =
       rw (a .within (at + 4) h, a .same at (omega arith), a .same (at + 1) (omega arith), a .same (at + 2) (omega arith), a .same (at + 3) (omega arith))
 
   period-both : (d at : ℕ) → at + 4 ≤ b → periodAt d s at ≡ periodAt d r at
   unfolding periodAt
-  period-both d at h = ap (notUnder d at) (ticks-both at h)
+  period-both d at h = ap (notUnder d at) (ticks-both 1 at h)
 
   edge-both : (v low at : ℕ) → at + 2 ≤ b → edgeAt v low s at ≡ edgeAt v low r at
   unfolding edgeAt field
@@ -100,7 +100,7 @@ module _ (b : ℕ) (s r : List ℕ) (a : Alike b s r) where
   unfolding costsAt
   costs-both zero at u costs h = refl
   costs-both (suc k) at u costs h =
-      on-both (λ o. record { outcome = o; costs = costs }) (ticksAt s at) (ticksAt r at) (ticks-both at (omega arith)) (ticks-view r at) _ _
+      on-both (λ o. record { outcome = o; costs = costs }) (ticksAt 0 s at) (ticksAt 0 r at) (ticks-both 0 at (omega arith)) (ticks-view 0 r at) _ _
       (λ x p. costs-both k (at + 4) (u + 1) (set costs u x) (omega arith))
 
   edges-both : (v : ℕ) → v ≤ 16 → (k at low : ℕ) (succ : List ℕ) → at + 2 * k ≤ b → edgesAt v s k at low succ ≡ edgesAt v r k at low succ
@@ -120,7 +120,7 @@ module _ (b : ℕ) (s r : List ℕ) (a : Alike b s r) where
       on-both badTask (markAt 0x4B s at) (markAt 0x4B r at) (mark-both 0x4B at (omega arith)) (mark-view 0x4B r at) _ _ (λ _ _.
       on-both badTask (byteAt 1 16 s (at + 2)) (byteAt 1 16 r (at + 2)) (byte-both 1 16 (at + 2) (omega arith)) (byte-view 1 16 r (at + 2)) _ _ (λ v hv.
       on-both badTask (byteAt 0 120 s (at + 3)) (byteAt 0 120 r (at + 3)) (byte-both 0 120 (at + 3) (omega arith)) (byte-view 0 120 r (at + 3)) _ _ (λ e he.
-      on-both badTask (ticksAt s (at + 4)) (ticksAt r (at + 4)) (ticks-both (at + 4) (omega arith)) (ticks-view r (at + 4)) _ _ (λ d _.
+      on-both badTask (ticksAt 1 s (at + 4)) (ticksAt 1 r (at + 4)) (ticks-both 1 (at + 4) (omega arith)) (ticks-view 1 r (at + 4)) _ _ (λ d _.
       on-both badTask (periodAt d s (at + 8)) (periodAt d r (at + 8)) (period-both d (at + 8) (omega arith)) (period-view d r (at + 8)) _ _ (λ t _.
       parts-both at v e d t (hv .1) (let h₁ = hv .1 in let h₂ = he .1 in omega arith))))))
 

@@ -60,9 +60,9 @@ module _ (s : List ℕ) where
   unfolding byteAt ranged number place
   byte-placed lo hi at h = field-placed 1 s at h _ (pick-stops (leb lo (getD s at 0) && leb (getD s at 0) hi) (getD s at 0) at (Range at) (bad-by (Range at) 2 refl, refl))
 
-  ticks-placed : (at : ℕ) → at ≤ length s → Placed (length s) (at + 4) (ticksAt s at)
+  ticks-placed : (lo at : ℕ) → at ≤ length s → Placed (length s) (at + 4) (ticksAt lo s at)
   unfolding ticksAt ranged number place
-  ticks-placed at h = field-placed 4 s at h _ (pick-stops (leb 1 (value4 s at) && leb (value4 s at) 1000000) (value4 s at) at (Ticks at) (bad-by (Ticks at) 3 refl, refl))
+  ticks-placed lo at h = field-placed 4 s at h _ (pick-stops (leb lo (value4 s at) && leb (value4 s at) 1000000) (value4 s at) at (Ticks at) (bad-by (Ticks at) 3 refl, refl))
 
   edge-placed : (v low at : ℕ) → at ≤ length s → Placed (length s) (at + 2) (edgeAt v low s at)
   unfolding edgeAt number place
@@ -70,7 +70,7 @@ module _ (s : List ℕ) where
 
   period-placed : (d at : ℕ) → at ≤ length s → Placed (length s) (at + 4) (periodAt d s at)
   unfolding periodAt notUnder number place
-  period-placed d at h = go (ticksAt s at) (ticks-placed at h)
+  period-placed d at h = go (ticksAt 1 s at) (ticks-placed 1 at h)
     where
       also : (b : Bool) (x : ℕ) → at + 4 ≤ length s → Placed (length s) (at + 4) (pick b (Got x) (Stop (Order at)))
       also true x l = got x refl l
@@ -114,7 +114,7 @@ module _ (s : List ℕ) where
   costs-reach zero at u costs h = (omega arith, λ e. omega arith)
   costs-reach (suc k) at u costs h =
       on-reach (λ (x : CostsRead). x .outcome) (λ o. record { outcome = o; costs = costs }) (λ o. refl) (length s)
-      (at + 4) (ticksAt s at) (ticks-placed s at h) _ (λ x. at + 4 * suc k) (λ x l.
+      (at + 4) (ticksAt 0 s at) (ticks-placed s 0 at h) _ (λ x. at + 4 * suc k) (λ x l.
       let i = costs-reach k (at + 4) (u + 1) (set costs u x) l in
       (i .0, λ e. let j = i .1 e in omega arith))
 
@@ -136,7 +136,7 @@ module _ (s : List ℕ) where
       on-reach out badTask out-task n (at + 2) (markAt 0x4B s at) (mark-placed s 0x4B at h) _ nx (λ _ l₁.
       on-reach out badTask out-task n (at + 2 + 1) (byteAt 1 16 s (at + 2)) (byte-placed s 1 16 (at + 2) l₁) _ nx (λ v l₂.
       on-reach out badTask out-task n (at + 3 + 1) (byteAt 0 120 s (at + 3)) (byte-placed s 0 120 (at + 3) (omega arith)) _ nx (λ e l₃.
-      on-reach out badTask out-task n (at + 4 + 4) (ticksAt s (at + 4)) (ticks-placed s (at + 4) (omega arith)) _ nx (λ d l₄.
+      on-reach out badTask out-task n (at + 4 + 4) (ticksAt 1 s (at + 4)) (ticks-placed s 1 (at + 4) (omega arith)) _ nx (λ d l₄.
       on-reach out badTask out-task n (at + 8 + 4) (periodAt d s (at + 8)) (period-placed s d (at + 8) (omega arith)) _ nx (λ t l₅.
       when-reach out badTask out-task n (at + 12 + 4 * v) _ (costs-reach v (at + 12) 0 noCosts (omega arith)) _ nx (λ l₆.
       when-reach out badTask out-task n (at + 12 + 4 * v + 2 * e) _ (edges-reach v e (at + 12 + 4 * v) 0 noSucc l₆) _ nx (λ l₇.

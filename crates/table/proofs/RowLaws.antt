@@ -73,7 +73,7 @@ unfolding costsAt
 into-row s zero at u i row own hi hu n = refl
 into-row s (suc k) at u i row own hi hu n =
     let e : 16 * i + u + 1 ≡ 16 * i + (u + 1) = omega arith in
-    after-field row i own (ticksAt s at) (λ x. costsAt s k (at + 4) (16 * i + u + 1) (set (putCosts row i own) (16 * i + u) x))
+    after-field row i own (ticksAt 0 s at) (λ x. costsAt s k (at + 4) (16 * i + u + 1) (set (putCosts row i own) (16 * i + u) x))
     (λ x. costsAt s k (at + 4) (u + 1) (set own u x))
     (λ x. ap₂ (λ (j : ℕ) (r : List ℕ). costsAt s k (at + 4) j r) e (put-set row i own u x hi (omega arith) n)
     ∙ into-row s k (at + 4) (u + 1) i row (set own u x) hi (omega arith) (length-set own u x ∙ n))

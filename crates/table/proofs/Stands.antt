@@ -35,27 +35,27 @@ use Rattle.table.proofs.Unused.{spare-vertex, spare-cost, spare-task}
 byte-was : (lo hi : ℕ) (s : List ℕ) (at x y : ℕ) (r : List ℕ) → byteAt lo hi s at ≡ Got x → drop at s ≡ y ∷ r → x ≡ y
 byte-was lo hi s at x y r g e = let z : x ∷ drop (at + 1) s ≡ y ∷ r = sym (byte-bytes lo hi s at x g) ∙ e in cc
 
-ticks-was : (s : List ℕ) (at x y : ℕ) (r : List ℕ) → ticksAt s at ≡ Got x → y < 2 ^ 32 → drop at s ≡ bytes4 y ++ r → x ≡ y
+ticks-was : (lo : ℕ) (s : List ℕ) (at x y : ℕ) (r : List ℕ) → ticksAt lo s at ≡ Got x → y < 2 ^ 32 → drop at s ≡ bytes4 y ++ r → x ≡ y
 unfolding ticksAt ranged
-ticks-was s at x y r g h e =
+ticks-was lo s at x y r g h e =
     let f = field-got 4 s at _ x g in
-    sym (pick-got (leb 1 (value4 s at) && leb (value4 s at) 1000000) (value4 s at) (Ticks at) x (f .1) .1) ∙ four-value s at y r (omega arith) e
+    sym (pick-got (leb lo (value4 s at) && leb (value4 s at) 1000000) (value4 s at) (Ticks at) x (f .1) .1) ∙ four-value s at y r (omega arith) e
 
 costs-were : (s : List ℕ) (k at j : ℕ) (f : ℕ → ℕ) (costs r : List ℕ) → ((u : ℕ) → f u < 2 ^ 32) → drop at s ≡ joinFrom k j (λ u. bytes4 (f u)) ++ r
-    → costsAt s k at j costs .outcome ≡ Read → (u : ℕ) → j ≤ u → u < j + k → Between 1 1000000 (f u)
+    → costsAt s k at j costs .outcome ≡ Read → (u : ℕ) → j ≤ u → u < j + k → Between 0 1000000 (f u)
 unfolding costsAt joinFrom
 costs-were s zero at j f costs r small e h u a b = absurd (omega arith)
 costs-were s (suc k) at j f costs r small e h u a b =
     let out : CostsRead → Outcome = λ (x : CostsRead). x .outcome in
     let g = on-field out (λ o. record { outcome = o; costs = costs }) (λ o. refl)
-    (ticksAt s at) (ticks-view s at) (λ x. costsAt s k (at + 4) (j + 1) (set costs j x)) (costsAt s (suc k) at j costs) h refl in
+    (ticksAt 0 s at) (ticks-view 0 s at) (λ x. costsAt s k (at + 4) (j + 1) (set costs j x)) (costsAt s (suc k) at j costs) h refl in
     let rest : List ℕ = joinFrom k (suc j) (λ u. bytes4 (f u)) ++ r in
     let e₂ : drop at s ≡ bytes4 (f j) ++ rest = e ∙ append-assoc (bytes4 (f j)) (joinFrom k (suc j) (λ u. bytes4 (f u))) r in
-    let q : g .0 ≡ f j = ticks-was s at (g .0) (f j) rest (g .1) (small j) e₂ in
+    let q : g .0 ≡ f j = ticks-was 0 s at (g .0) (f j) rest (g .1) (small j) e₂ in
     let o : costsAt s k (at + 4) (suc j) (set costs j (g .0)) .outcome ≡ Read =
     ap (λ (n : ℕ). costsAt s k (at + 4) n (set costs j (g .0)) .outcome) (sym (add-one j)) ∙ ap out (sym (g .3)) ∙ h in
     elim (ℕ-discrete u j) [
-      | yes z ↦ subst (λ (x : ℕ). Between 1 1000000 x) (q ∙ ap f (sym z)) (g .2)
+      | yes z ↦ subst (λ (x : ℕ). Between 0 1000000 x) (q ∙ ap f (sym z)) (g .2)
       | no z ↦ costs-were s k (at + 4) (suc j) f (set costs j (g .0)) r small (next-four s at (f j) rest e₂) o u (omega arith) (omega arith)
     ]
 
@@ -82,8 +82,8 @@ module _ (t : Table) (typed : Typed t) (zeros : unusedZero t ≡ true) where
       let ks : List ℕ = edgeKeys t i in
       let v-same : w .v ≡ vertices t i = byte-was 1 16 s (at + 2) (w .v) (vertices t i) _ (w .v-is) (at-v t s at i r e) in
       let e-same : w .e ≡ length ks = byte-was 0 120 s (at + 3) (w .e) (length ks) _ (w .e-is) (at-e t s at i r e) in
-      let d-same : w .d ≡ D t i = ticks-was s (at + 4) (w .d) (D t i) _ (w .d-is) (typed .D-word i) (at-D t s at i r e) in
-      let t-same : w .t ≡ T t i = ticks-was s (at + 8) (w .t) (T t i) _ (period-is (w .d) s (at + 8) (w .t) (w .t-is)) (typed .T-word i) (at-T t s at i r e) in
+      let d-same : w .d ≡ D t i = ticks-was 1 s (at + 4) (w .d) (D t i) _ (w .d-is) (typed .D-word i) (at-D t s at i r e) in
+      let t-same : w .t ≡ T t i = ticks-was 1 s (at + 8) (w .t) (T t i) _ (period-is (w .d) s (at + 8) (w .t) (w .t-is)) (typed .T-word i) (at-T t s at i r e) in
       let v₀ = w .v-range .0 in
       let v₁ = w .v-range .1 in
       let e₁ = w .e-range .1 in
@@ -113,7 +113,6 @@ module _ (t : Table) (typed : Typed t) (zeros : unusedZero t ≡ true) where
           T-low = omega arith;
           T-high = omega arith;
           D-T = omega arith;
-          cost-low = λ u l. range u (omega arith) (omega arith) .0;
           cost-high = λ u l. range u (omega arith) (omega arith) .1;
           ends = ends;
           no-cycle = ap acyclic (sym all-succ) ∙ w .no-cycle;

@@ -30,7 +30,7 @@ unfolding costsAt joinFrom
 costs-bytes s b zero at j costs l r h e = at-sum s at (at + 4 * 0) (omega arith)
 costs-bytes s b (suc k) at j costs l r h e =
     let g = on-field (λ (x : CostsRead). x .outcome) (λ o. record { outcome = o; costs = costs }) (λ o. refl)
-    (ticksAt s at) (ticks-view s at) (λ x. costsAt s k (at + 4) (j + 1) (set costs j x)) r h e in
+    (ticksAt 0 s at) (ticks-view 0 s at) (λ x. costsAt s k (at + 4) (j + 1) (set costs j x)) r h e in
     let x = g .0 in
     let n = length-set costs j x in
     let e₂ : r ≡ costsAt s k (at + 4) (suc j) (set costs j x) = g .3 ∙ ap (λ (z : ℕ). costsAt s k (at + 4) z (set costs j x)) (add-one j) in
@@ -38,7 +38,7 @@ costs-bytes s b (suc k) at j costs l r h e =
     let ci = costs-in s k (at + 4) (suc j) (set costs j x) (omega arith) r h e₂ in
     let mine : getD (r .costs) j 0 ≡ x = ci .below j (omega arith) ∙ getD-set-same costs j x 0 (omega arith) in
     let rest : List ℕ = joinFrom k (suc j) (λ u. bytes4 (getD (r .costs) u 0)) in
-    let t = ticks-bytes s at x b (g .1) in
+    let t = ticks-bytes 0 s at x b (g .1) in
     let m = at-sum s (at + 4 + 4 * k) (at + 4 * suc k) (omega arith) in
     t ∙ ap (λ (z : List ℕ). bytes4 x ++ z) (ih ∙ ap (λ (z : List ℕ). rest ++ z) m)
     ∙ sym (append-assoc (bytes4 x) rest (drop (at + 4 * suc k) s))
@@ -81,8 +81,8 @@ task-bytes s b at r h q =
     let b₁ = mark-bytes 0x4B s at (w .x) (w .mark-is) in
     let b₂ = byte-bytes 1 16 s (at + 2) v (w .v-is) ∙ ap (λ (z : List ℕ). v ∷ z) (at-sum s (at + 2 + 1) (at + 3) (omega arith)) in
     let b₃ = byte-bytes 0 120 s (at + 3) e (w .e-is) ∙ ap (λ (z : List ℕ). e ∷ z) (at-sum s (at + 3 + 1) (at + 4) (omega arith)) in
-    let b₄ = ticks-bytes s (at + 4) d b (w .d-is) ∙ ap (λ (z : List ℕ). bytes4 d ++ z) (at-sum s (at + 4 + 4) (at + 8) (omega arith)) in
-    let b₅ = ticks-bytes s (at + 8) t b (period-is d s (at + 8) t (w .t-is)) ∙ ap (λ (z : List ℕ). bytes4 t ++ z) (at-sum s (at + 8 + 4) (at + 12) (omega arith)) in
+    let b₄ = ticks-bytes 1 s (at + 4) d b (w .d-is) ∙ ap (λ (z : List ℕ). bytes4 d ++ z) (at-sum s (at + 4 + 4) (at + 8) (omega arith)) in
+    let b₅ = ticks-bytes 1 s (at + 8) t b (period-is d s (at + 8) t (w .t-is)) ∙ ap (λ (z : List ℕ). bytes4 t ++ z) (at-sum s (at + 8 + 4) (at + 12) (omega arith)) in
     let b₆ = costs-bytes s b v (at + 12) 0 noCosts (omega arith) c (w .costs-read) refl in
     let b₇ = ea .bytes ∙ ap (λ (x : List ℕ). edgeBytes x ++ drop (at + 12 + 4 * v + 2 * e) s) (sym ka) in
     let nx : ℕ = at + 12 + 4 * v + 2 * e in

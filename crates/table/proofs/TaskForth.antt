@@ -32,7 +32,7 @@ unfoldable pub fill : ℕ → ℕ → (ℕ → ℕ) → List ℕ → List ℕ
 fill zero j f l = l
 fill (suc k) j f l = fill k (suc j) f (set l j (f j))
 
-read-costs : (s : List ℕ) (k at j : ℕ) (f : ℕ → ℕ) (costs r : List ℕ) → ((u : ℕ) → j ≤ u → u < j + k → (1 ≤ f u) × (f u ≤ 1000000))
+read-costs : (s : List ℕ) (k at j : ℕ) (f : ℕ → ℕ) (costs r : List ℕ) → ((u : ℕ) → j ≤ u → u < j + k → f u ≤ 1000000)
     → drop at s ≡ joinFrom k j (λ u. bytes4 (f u)) ++ r → costsAt s k at j costs ≡ record { outcome = Read; costs = fill k j f costs }
 unfolding costsAt joinFrom fill
 read-costs s zero at j f costs r h e = refl
@@ -40,7 +40,7 @@ read-costs s (suc k) at j f costs r h e =
     let b = h j (omega arith) (omega arith) in
     let rest : List ℕ = joinFrom k (suc j) (λ u. bytes4 (f u)) ++ r in
     let e₂ : drop at s ≡ bytes4 (f j) ++ rest = e ∙ append-assoc (bytes4 (f j)) (joinFrom k (suc j) (λ u. bytes4 (f u))) r in
-    rw (read-ticks s at (f j) rest (b .0) (b .1) e₂, add-one j)
+    rw (read-ticks 0 s at (f j) rest (omega arith) b e₂, add-one j)
     (read-costs s k (at + 4) (suc j) f (set costs j (f j)) r (λ u x y. h u (omega arith) (omega arith)) (next-four s at (f j) rest e₂))
 
 pub fill-out : (k j : ℕ) (f : ℕ → ℕ) (l : List ℕ) (c : ℕ) → (c < j) ⊎ (j + k ≤ c) → getD (fill k j f l) c 0 ≡ getD l c 0
@@ -103,15 +103,15 @@ module _ (t : Table) (good : GoodTable t) (typed : Typed t) (s : List ℕ) (at i
       let g = good .each i b in
       let n = good .n-high in
       let k : costsAt s v (at + 12) 0 noCosts ≡ record { outcome = Read; costs = fill v 0 (cost t i) noCosts } =
-      read-costs s v (at + 12) 0 (cost t i) noCosts (edgeBytes (edgeKeys t i) ++ r) (λ u x y. (g .cost-low u (omega arith), g .cost-high u (omega arith))) (at-costs t s at i r e) in
+      read-costs s v (at + 12) 0 (cost t i) noCosts (edgeBytes (edgeKeys t i) ++ r) (λ u x y. g .cost-high u (omega arith)) (at-costs t s at i r e) in
       let q : edgesAt v s (length (edgeKeys t i)) (at + 12 + 4 * v) 0 noSucc ≡ record { outcome = Read; succ = addAll noSucc (edgeKeys t i) } =
       read-edges v s (edgeKeys t i) (at + 12 + 4 * v) 0 (16 * v) noSucc r (keys-ascend t i) (λ k x. g .ends (k / 16) (k % 16) (key-edge t i k x .1)) (at-edges t s at i r e) in
       rw (
         read-mark 0x4B s at _ (at-mark t s at i r e),
         read-byte 1 16 s (at + 2) v _ (g .v-low) (g .v-high) (at-v t s at i r e),
         read-byte 0 120 s (at + 3) (length (edgeKeys t i)) _ (omega arith) (g .e-high) (at-e t s at i r e),
-        read-ticks s (at + 4) (D t i) _ (g .D-low) (g .D-high) (at-D t s at i r e),
-        read-ticks s (at + 8) (T t i) _ (g .T-low) (g .T-high) (at-T t s at i r e),
+        read-ticks 1 s (at + 4) (D t i) _ (g .D-low) (g .D-high) (at-D t s at i r e),
+        read-ticks 1 s (at + 8) (T t i) _ (g .T-low) (g .T-high) (at-T t s at i r e),
         le-leb (D t i) (T t i) (g .D-T),
         k,
         q,

@@ -112,7 +112,7 @@ module _ (s : List ℕ) (at : ℕ) (a : Field) (ha : a ≡ markAt 0x4B s at) whe
       unfolding taskAt
       task-e o r q h = h ∙ rw (← ha, qa, ← hb, qb, ← hc, q)
 
-      module _ (e : ℕ) (qc : c ≡ Got e) (f : Field) (hf : f ≡ ticksAt s (at + 4)) where
+      module _ (e : ℕ) (qc : c ≡ Got e) (f : Field) (hf : f ≡ ticksAt 1 s (at + 4)) where
         pub task-d : (o : Outcome) (r : TaskRead) → f ≡ Stop o → r ≡ badTask o → r ≡ taskAt s at
         unfolding taskAt
         task-d o r q h = h ∙ rw (← ha, qa, ← hb, qb, ← hc, qc, ← hf, q)

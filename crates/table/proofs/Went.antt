@@ -45,7 +45,7 @@ pub record TaskWent (s : List ℕ) (at : ℕ) (r : TaskRead) : Type 0 where
   pub v-range : Between 1 16 v
   pub e-is : byteAt 0 120 s (at + 3) ≡ Got e
   pub e-range : Between 0 120 e
-  pub d-is : ticksAt s (at + 4) ≡ Got d
+  pub d-is : ticksAt 1 s (at + 4) ≡ Got d
   pub d-range : Between 1 1000000 d
   pub t-is : periodAt d s (at + 8) ≡ Got t
   pub t-range : Period d t
@@ -63,7 +63,7 @@ task-went s at r h q =
     let g₁ = on-field out badTask out-task (markAt 0x4B s at) (mark-view 0x4B s at) _ r h q in
     let g₂ = on-field out badTask out-task (byteAt 1 16 s (at + 2)) (byte-view 1 16 s (at + 2)) _ r h (g₁ .3) in
     let g₃ = on-field out badTask out-task (byteAt 0 120 s (at + 3)) (byte-view 0 120 s (at + 3)) _ r h (g₂ .3) in
-    let g₄ = on-field out badTask out-task (ticksAt s (at + 4)) (ticks-view s (at + 4)) _ r h (g₃ .3) in
+    let g₄ = on-field out badTask out-task (ticksAt 1 s (at + 4)) (ticks-view 1 s (at + 4)) _ r h (g₃ .3) in
     let g₅ = on-field out badTask out-task (periodAt (g₄ .0) s (at + 8)) (period-view (g₄ .0) s (at + 8)) _ r h (g₄ .3) in
     let c : CostsRead = costsAt s (g₂ .0) (at + 12) 0 noCosts in
     let w₁ = went out badTask out-task (c .outcome) _ r h (g₅ .3) in

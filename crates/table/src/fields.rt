@@ -61,16 +61,16 @@ fn number_at(bytes: &[u8], at: usize) -> u32
     a + 256 * b + 65536 * c + 16777216 * d
 }
 
-// D, T or a cost. A place past the end is never asked for, so the length less the place is what is left.
-pub(crate) fn ticks_at(bytes: &[u8], at: usize) -> Field
+// D or T, from 1 on, or a cost, from 0 on. A place past the end is never asked for, so the length less the place is what is left.
+pub(crate) fn ticks_at(bytes: &[u8], at: usize, lo: u32) -> Field
     requires { ⌜ at ≤ length (now bytes) ⌝ }
-    ensures { λ r. ⌜ r ≡ ticksAt (now (bytes .entry)) at ⌝ }
+    ensures { λ r. ⌜ r ≡ ticksAt lo (now (bytes .entry)) at ⌝ }
 {
     if bytes.len() - at < 4 {
         return Field::Stop(Outcome::Short(at));
     }
     let x = number_at(bytes, at);
-    if x < 1 {
+    if x < lo {
         return Field::Stop(Outcome::Ticks(at));
     }
     if 1_000_000 < x {
@@ -84,7 +84,7 @@ pub(crate) fn period_at(bytes: &[u8], at: usize, d: u32) -> Field
     requires { ⌜ at ≤ length (now bytes) ⌝ }
     ensures { λ r. ⌜ r ≡ periodAt d (now (bytes .entry)) at ⌝ }
 {
-    match ticks_at(bytes, at) {
+    match ticks_at(bytes, at, 1) {
         Field::Stop(o) => Field::Stop(o),
         Field::Got(t) => {
             if t < d {

@@ -21,7 +21,7 @@ pub(crate) fn costs_at(
     let mut p = at;
     let mut u: usize = 0;
     while u < v as usize {
-        match fields::ticks_at(bytes, p) {
+        match fields::ticks_at(bytes, p, 0) {
             Field::Stop(o) => {
                 return o;
             }

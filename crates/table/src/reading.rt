@@ -121,7 +121,7 @@ fn task_at(bytes: &[u8], at: usize, i: usize, costs: &mut [u32; 256]) -> TaskFou
         }
         Field::Got(x) => x,
     };
-    let d = match fields::ticks_at(bytes, at + 4) {
+    let d = match fields::ticks_at(bytes, at + 4, 1) {
         Field::Stop(o) => {
             return bad_task(o);
         }

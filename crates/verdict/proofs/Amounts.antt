@@ -12,7 +12,7 @@ use Rattle.graph.specs.Words.{pick, sum}
 use Rattle.graph.specs.Graph.{acyclic, Chain, alone, joined, sumAlong}
 use Rattle.graph.proofs.Facts.{sum-le, sum-at}
 use Rattle.graph.proofs.Rank.{rank, rank-up}
-use Rattle.graph.proofs.Long.{longest-bounds, longest-reached}
+use Rattle.graph.proofs.Long.{longest-reached}
 use Rattle.table.specs.declared.Table.{Table}
 use Rattle.table.specs.Memory.{vertices, D, T, succ, edgeIn, cost}
 use Rattle.table.specs.Good.{GoodTable}
@@ -111,7 +111,7 @@ module _ (v : ℕ) (E : ℕ → ℕ → Bool) (rise : ℕ → ℕ) (up : (u w : 
   along-most (u ∷ c) h = omega (arith, along-from u c h, sum-le v (from u) f (λ x l. from-most u x))
 
 module _ (t : Table) (good : GoodTable t) where
-  -- 1 ≤ len ≤ vol ≤ 16,000,000
+  -- len ≤ vol ≤ 16,000,000
   pub vol-high : (k : ℕ) → k < t .n → vol t k ≤ 16000000
   unfolding vol
   vol-high k b = omega (arith, sum-most (vertices t k) 1000000 (cost t k) (good .each k b .cost-high), good .each k b .v-high)
@@ -125,12 +125,6 @@ module _ (t : Table) (good : GoodTable t) where
   len-vol k b =
       let r = longest-reached (vertices t k) (succ t k) (cost t k) (good .each k b .v-high) (good .each k b .no-cycle) (good .each k b .v-low) in
       omega (arith, r .2, along-most (vertices t k) (edgeIn t k) (rank 16 (edgeIn t k)) (climbs k b) (cost t k) (r .0) (r .1))
-
-  pub len-low : (k : ℕ) → k < t .n → 1 ≤ len t k
-  unfolding len edgeIn sumAlong
-  len-low k b =
-      let g = good .each k b in
-      omega (arith, g .cost-low 0 (g .v-low), longest-bounds (vertices t k) (succ t k) (cost t k) (g .v-high) (g .no-cycle) (0 ∷ []) (alone (g .v-low)))
 
   -- vol ≤ due ≤ vol + 15 · D · 16,000,000: of its own jobs one is due, of another task's at most one each tick
   own-due : (k : ℕ) → k < t .n → roundedUp (D t k) (T t k) * vol t k ≡ vol t k

@@ -5,7 +5,7 @@ use mathlib.Core.Bool.{Bool, true, false, cond}
 use mathlib.Core.List.{List}
 use Prim.Native.Nat.{ℕ, zero, suc, _+_, _*_, _-_, _≤_, _<_}
 use native.Mathlib.Omega.{arith}
-use native.Mathlib.Nat.{mul-suc, mul-add, mul-comm, mul-le-mul, mul-le-mul-left, mul-le-mul-right}
+use native.Mathlib.Nat.{mul-suc, mul-add, mul-comm, mul-le-mul-left, mul-le-mul-right}
 use native.Mathlib.Decide.{decLe}
 use lib.Dec.{T, ltb, leb, le→leb}
 use lib.IntN.{ℤ, pos, negsuc, negℤ, _+ℤ_, _-ℤ_, -ℤ-+ℤ-cancel}
@@ -18,7 +18,7 @@ use Rattle.table.specs.Reading.{read}
 use Rattle.table.specs.Good.{GoodTable}
 use Rattle.table.proofs.Sound.{read-good}
 use Rattle.verdict.specs.Verdicts.{vol, len, due, margin}
-use Rattle.verdict.proofs.Amounts.{vol-high, len-vol, len-low, vol-due, due-high}
+use Rattle.verdict.proofs.Amounts.{vol-high, len-vol, vol-due, due-high, allowance-high}
 
 -- ---- a difference of two numbers, and its order
 pub minus-low : (a b l : ℕ) → b ≤ a + suc l → negsuc l ≤ℤ (pos a -ℤ pos b)
@@ -67,21 +67,9 @@ module _ (t : Table) (good : GoodTable t) (k : ℕ) (b : k < t .n) where
       let m = good .m-low in
       omega (arith, mul-le-mul-left (t .m - 1) l, due-high t good k b, vol-high t good k b, crossed, good .each k b .D-high)
 
-  pub spent-least : t .m * D t k ≤ (t .m - 1) * len t k + due t k + 7999992
-  spent-least =
-      let d = good .each k b .D-low in
-      let e : D t k ≡ suc (D t k - 1) = omega arith in
-      let m = good .m-low in
-      let w : D t k - 1 ≤ 999999 = omega (arith, good .each k b .D-high) in
-      let z : t .m * (D t k - 1) ≤ 8 * 999999 = mul-le-mul (good .m-high) w in
-      omega (
-        arith,
-        ap (λ (x : ℕ). t .m * x) e ∙ mul-suc (t .m) (D t k - 1),
-        mul-le-mul-left (t .m - 1) (len-low t good k b),
-        len-low t good k b,
-        len-vol t good k b,
-        vol-due t good k b,
-      )
+  -- m · D alone is at most 8,000,000; where every cost is 0 nothing is spent of it
+  pub spent-least : t .m * D t k ≤ (t .m - 1) * len t k + due t k + 8000000
+  spent-least = omega (arith, allowance-high t good k b)
 
   -- m · len ≤ (m - 1) · len + due, since len ≤ vol ≤ due
   pub chain-spent : t .m * len t k ≤ (t .m - 1) * len t k + due t k
@@ -122,13 +110,8 @@ pub margin-range : (t : Table) → GoodTable t → (k : ℕ) → k < t .n → In
 unfolding margin lowEnd highEnd
 margin-range t good k b = record {
   low = minus-low (t .m * D t k) ((t .m - 1) * len t k + due t k) 240000119999999 (omega (arith, spent-most t good k b));
-  high = minus-high (t .m * D t k) ((t .m - 1) * len t k + due t k) 8000000 (omega (arith, spent-least t good k b));
+  high = minus-high (t .m * D t k) ((t .m - 1) * len t k + due t k) 8000000 (spent-least t good k b);
 }
-
--- in truth it is at most 7,999,992, since each cost is at least 1
-pub margin-high : (t : Table) → GoodTable t → (k : ℕ) → k < t .n → margin t k ≤ℤ pos 7999992
-unfolding margin
-margin-high t good k b = minus-high (t .m * D t k) ((t .m - 1) * len t k + due t k) 7999992 (spent-least t good k b)
 
 -- so for every file that is read
 pub file-range : (s : List ℕ) → read s .outcome ≡ Read → (k : ℕ) → k < read s .table .n → InRange (margin (read s .table) k)

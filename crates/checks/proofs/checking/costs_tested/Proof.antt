@@ -4,7 +4,7 @@ use native.Mathlib.Omega.{arith}
 use native.Mathlib.Nat.{sub-zero, add-zero}
 use borrow.Author.Needs.{needs}
 use Rattle.checks.specs.Checking.{costsTested}
-use Rattle.checks.proofs.TestLaws.{costs-under, costs-over, costs-more, costs-end}
+use Rattle.checks.proofs.TestLaws.{costs-over, costs-more, costs-end}
 use Rattle.checks.proofs.checking.costs_tested.Statement.{statement}
 use Rattle.checks.proofs.checking.costs_tested.Tie as tie
 
@@ -29,11 +29,6 @@ element-copy-out-x c = search needs
 returns : tie.Need-returns Inv-loop μ-loop
 returns c =
     let b = c .before .before .before in
-    costs-under _ _ (b .before .args .v - (b .loop .u + 1)) _ _ (omega arith) (omega arith) ∙ b .loop .inv .2
-
-returns-2 : tie.Need-returns-2 Inv-loop μ-loop
-returns-2 c =
-    let b = c .before .before .before .before in
     costs-over _ _ (b .before .args .v - (b .loop .u + 1)) _ _ (omega arith) (omega arith) ∙ b .loop .inv .2
 
 add-p : tie.Need-add-p Inv-loop μ-loop
@@ -47,11 +42,11 @@ loop-less c = search needs
 
 loop-again : tie.Need-loop-again Inv-loop μ-loop
 loop-again c =
-    let b = c .before .before .before .before in
-    (search needs, omega arith, costs-more _ _ _ _ (b .before .args .slot + b .loop .u) (omega arith) _ (omega arith) (omega arith) (omega arith) ∙ b .loop .inv .2)
+    let b = c .before .before .before in
+    (search needs, omega arith, costs-more _ _ _ _ (b .before .args .slot + b .loop .u) (omega arith) _ (omega arith) (omega arith) ∙ b .loop .inv .2)
 
-returns-3 : tie.Need-returns-3 Inv-loop μ-loop
-returns-3 c = costs-end _ (c .before .before .args .v - c .before .loop .u) _ _ (omega arith) ∙ c .before .loop .inv .2
+returns-2 : tie.Need-returns-2 Inv-loop μ-loop
+returns-2 c = costs-end _ (c .before .before .args .v - c .before .loop .u) _ _ (omega arith) ∙ c .before .loop .inv .2
 
 pub costs-tested-spec : {M : Type 1} → statement M
 costs-tested-spec =
@@ -64,9 +59,8 @@ costs-tested-spec =
     mul-x
     element-copy-out-x
     returns
-    returns-2
     add-p
     add-u
     loop-less
     loop-again
-    returns-3)
+    returns-2)

@@ -48,7 +48,7 @@ element-write-costs : tie.Need-element-write-costs Inv-loop μ-loop
 element-write-costs c = search needs
 
 add-p : tie.Need-add-p Inv-loop μ-loop
-add-p c = omega (arith, ticks-read _ _ _ _ (c .before .before .before .ticks-at .ensures) (c .before .x .given .1) .0)
+add-p c = omega (arith, ticks-read _ _ _ _ _ (c .before .before .before .ticks-at .ensures) (c .before .x .given .1) .0)
 
 add-u : tie.Need-add-u Inv-loop μ-loop
 add-u c = search needs
@@ -60,7 +60,7 @@ loop-again : tie.Need-loop-again Inv-loop μ-loop
 loop-again c =
     let a = c .before .before .before .before .before .before .before .args in
     let l = c .before .before .before .before .before .loop in
-    let r = ticks-read _ _ _ _ (c .before .before .before .ticks-at .ensures) (c .before .x .given .1) in
+    let r = ticks-read _ _ _ _ _ (c .before .before .before .ticks-at .ensures) (c .before .x .given .1) in
     let e : a .slot + (l .u + 1) ≡ a .slot + l .u + 1 = omega arith in (
       search needs,
       omega arith,

@@ -76,10 +76,10 @@ enum-known-x-3 : tie.Need-enum-known-x-3
 enum-known-x-3 c = search needs
 
 add-period-at : tie.Need-add-period-at
-add-period-at c = omega (arith, ticks-read _ _ _ _ (c .before .before .before .ticks-at .ensures) (c .before .x3 .given .1) .0)
+add-period-at c = omega (arith, ticks-read _ _ _ _ _ (c .before .before .before .ticks-at .ensures) (c .before .x3 .given .1) .0)
 
 period-at-requires : tie.Need-period-at-requires
-period-at-requires c κs = omega (arith, ticks-read _ _ _ _ (c .before .before .before .ticks-at .ensures) (c .before .x3 .given .1) .0)
+period-at-requires c κs = omega (arith, ticks-read _ _ _ _ _ (c .before .before .before .ticks-at .ensures) (c .before .x3 .given .1) .0)
 
 enum-known-o-5 : tie.Need-enum-known-o-5
 enum-known-o-5 c = search needs
