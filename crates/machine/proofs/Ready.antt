@@ -50,7 +50,7 @@ ready-set succs v rest i unfinished behind h o q =
         ∙ held-by-set (min v 16) (edge succs) (λ w. getD rest (16 * i + w) 0) unfinished (omega arith) l u
 
 -- ---- it is all the same whether all are asked or the first sixteen, those past them leading nowhere
-all-upto : (v n : ℕ) (p : ℕ → Bool) → v ≤ n → ((j : ℕ) → v ≤ j → j < n → p j ≡ true) → all n p ≡ all v p
+pub all-upto : (v n : ℕ) (p : ℕ → Bool) → v ≤ n → ((j : ℕ) → v ≤ j → j < n → p j ≡ true) → all n p ≡ all v p
 unfolding all
 all-upto v zero p h k = let z : v ≡ 0 = omega arith in rw z refl
 all-upto v (suc n) p h k = elim (decLe v n) [
