@@ -1,18 +1,21 @@
--- A test of each number below n, as a loop makes it; and the vertices with an unfinished direct predecessor as a set.
+-- A test of each number below n, as a loop makes it; and the vertices of which something remains, as a set.
 use mathlib.Core.Path.{_≡_, refl, sym, ap, _∙_}
 use mathlib.Core.Bool.{Bool, true, false, _&&_, _||_, not, or-true}
 use mathlib.Core.List.{List}
-use Prim.Native.Nat.{ℕ, zero, suc, _+_, _*_, _<_}
+use Prim.Native.Nat.{ℕ, _+_, _*_, _%_, _^_, _≤_, _<_}
 use native.Mathlib.Omega.{arith}
+use native.Mathlib.Nat.{mod-lt}
 use native.Mathlib.Numerals.{add-one}
 use lib.ListN.{getD}
-use lib.Dec.{eqb}
-use lib.Bits.{bitOr}
-use borrow.Author.Tests.{eq-eqb, ne-eqb}
-use Rattle.graph.specs.Words.{bit, all}
-use Rattle.graph.specs.Graph.{edge}
+use lib.Dec.{ltb, eqb, lit<}
+use lib.Bits.{bitOr, or-lt}
+use borrow.Author.Tests.{lt-ltb, le-ltb, eq-eqb, ne-eqb}
+use Rattle.graph.specs.Words.{bit, all, setOf}
 use Rattle.graph.proofs.Facts.{clash, and-true, all-at, off-when}
-use Rattle.graph.proofs.Bits.{bit-or, bit-zero}
+use Rattle.graph.proofs.Bits.{bit-zero}
+use Rattle.graph.proofs.Sets.{set-is, one-more, one-below}
+use Rattle.fitness.specs.Fitness.{at, somethingLeft}
+pub use Rattle.graph.proofs.Facts.{all-same}
 
 -- ---- a test of each number below n
 pub all-next : (n : ℕ) (p : ℕ → Bool) → all (n + 1) p ≡ (all n p && p n)
@@ -31,60 +34,68 @@ module _ (n : ℕ) (p : ℕ → Bool) where
   pub all-done : (k : ℕ) → k ≡ n → all k p ≡ true → true ≡ all n p
   all-done k e h = sym (sym (ap (λ (j : ℕ). all j p) e) ∙ h)
 
-pub all-same : (n : ℕ) (p q : ℕ → Bool) → ((k : ℕ) → k < n → p k ≡ q k) → all n p ≡ all n q
-unfolding all
-all-same zero p q h = refl
-all-same (suc n) p q h =
-    ap (λ (b : Bool). b && p n) (all-same n p q (λ k b. h k (omega arith))) ∙ ap (λ (b : Bool). all n q && b) (h n (omega arith))
+-- ---- the set of the vertices of which something remains, gathered vertex by vertex
+module _ (rest : List ℕ) (i : ℕ) where
+  -- of the first u
+  pub record Gathered (u set : ℕ) : Type 0 where
+    pub below : u ≤ 16
+    pub small : set < 2 ^ 16
+    pub own : (k : ℕ) → bit set k ≡ (ltb k u && not (eqb (at rest i k) 0))
 
--- ---- direct predecessors with something remaining, of successors and a row in memory
--- w does not lead to u, or nothing of it remains
-abbrev pub lets : List ℕ → List ℕ → ℕ → ℕ → ℕ → Bool
-lets succ remaining i u w = not (edge succ w u) || eqb (getD remaining (16 * i + w) 0) 0
+  pub gathered-none : Gathered 0 0
+  gathered-none = record {
+    below = omega arith;
+    small = omega arith;
+    own = λ k. bit-zero k ∙ sym (ap (λ (b : Bool). b && not (eqb (at rest i k) 0)) (le-ltb k 0 (omega arith)));
+  }
 
--- `behind` is the set of those to which one of the first v vertices leads that has something remaining
-abbrev pub Behind : List ℕ → ℕ → List ℕ → ℕ → ℕ → Type 0
-Behind succ v remaining i behind = (u : ℕ) → bit behind u ≡ not (all v (lets succ remaining i u))
+  module _ (u set : ℕ) (h : u < 16) (g : Gathered u set) where
+    next : (b : Bool) → eqb (at rest i u) 0 ≡ b → (k : ℕ) → (bit set k || (eqb k u && not b)) ≡ (ltb k (u + 1) && not (eqb (at rest i k) 0))
+    next b e k =
+        ap (λ (x : Bool). bit set k || (eqb k u && not x)) (sym e)
+        ∙ ap (λ (x : Bool). x || (eqb k u && not (eqb (at rest i u) 0))) (g .own k)
+        ∙ one-below (λ x. not (eqb (at rest i x) 0)) u k
 
-add-on : (a e : Bool) → (not a || e) ≡ not (a && (not e || false))
-add-on true true = refl
-add-on true false = refl
-add-on false e = refl
+    pub gathered-more : (at rest i u ≡ 0 → ⊥) → Gathered (u + 1) (bitOr set (1 * 2 ^ u % 65536))
+    gathered-more d = record {
+      below = omega arith;
+      small = or-lt 16 set (1 * 2 ^ u % 65536) (g .small) (mod-lt (1 * 2 ^ u) {m = 65536} (lit< tt));
+      own = λ k. one-more set u k h ∙ ap (λ (x : Bool). bit set k || x) (with (eqb k u)) ∙ next false (ne-eqb (at rest i u) 0 d) k;
+    }
+      where
+        with : (a : Bool) → a ≡ (a && not false)
+        with true = refl
+        with false = refl
 
-pass-by : (a e : Bool) → not a ≡ not (a && (not e || true))
-pass-by true true = refl
-pass-by true false = refl
-pass-by false e = refl
+    pub gathered-same : at rest i u ≡ 0 → Gathered (u + 1) set
+    gathered-same z = record {
+      below = omega arith;
+      small = g .small;
+      own = λ k. without (bit set k) (eqb k u) ∙ next true (eq-eqb (at rest i u) 0 z) k;
+    }
+      where
+        without : (a b : Bool) → a ≡ (a || (b && not true))
+        without true b = refl
+        without false true = refl
+        without false false = refl
 
-module _ (succ remaining : List ℕ) (i : ℕ) where
-  pub behind-none : Behind succ 0 remaining i 0
-  unfolding all
-  behind-none u = bit-zero u
+  pub gathered-all : (u set : ℕ) → i < 16 → u ≡ 16 → Gathered u set → set ≡ setOf 16 (somethingLeft rest i)
+  unfolding somethingLeft
+  gathered-all u set h e g =
+      set-is 16 set (λ k. ltb i 16 && not (eqb (at rest i k) 0)) (g .small)
+      (λ k b. g .own k ∙ ap (λ (c : Bool). c && not (eqb (at rest i k) 0)) (lt-ltb k u (omega arith) ∙ sym (lt-ltb i 16 h)))
 
-  module _ (w behind : ℕ) (so-far : Behind succ w remaining i behind) where
-    -- the test of w itself
-    next : (b : Bool) → eqb (getD remaining (16 * i + w) 0) 0 ≡ b → (u : ℕ)
-        → not (all w (lets succ remaining i u) && (not (edge succ w u) || b)) ≡ not (all (w + 1) (lets succ remaining i u))
-    next b e u =
-        ap not (ap (λ (x : Bool). all w (lets succ remaining i u) && (not (edge succ w u) || x)) (sym e) ∙ sym (all-next w (lets succ remaining i u)))
+  -- past the sixteen tasks there is nothing
+  pub gathered-past : 16 ≤ i → 0 ≡ setOf 16 (somethingLeft rest i)
+  unfolding somethingLeft
+  gathered-past h =
+      set-is 16 0 (λ k. ltb i 16 && not (eqb (at rest i k) 0)) (omega arith)
+      (λ k b. bit-zero k ∙ sym (ap (λ (c : Bool). c && not (eqb (at rest i k) 0)) (le-ltb i 16 h)))
 
-    -- one more with something remaining: its successors are added
-    pub behind-more : (getD remaining (16 * i + w) 0 ≡ 0 → ⊥) → Behind succ (w + 1) remaining i (bitOr behind (getD succ w 0))
-    unfolding edge
-    behind-more h u =
-        bit-or behind (getD succ w 0) u
-        ∙ ap (λ (b : Bool). b || bit (getD succ w 0) u) (so-far u)
-        ∙ add-on (all w (lets succ remaining i u)) (bit (getD succ w 0) u)
-        ∙ next false (ne-eqb (getD remaining (16 * i + w) 0) 0 h) u
-
-    -- one more with nothing remaining
-    pub behind-same : getD remaining (16 * i + w) 0 ≡ 0 → Behind succ (w + 1) remaining i behind
-    behind-same h u =
-        so-far u ∙ pass-by (all w (lets succ remaining i u)) (edge succ w u) ∙ next true (eq-eqb (getD remaining (16 * i + w) 0) 0 h) u
-
--- the loop is through
-pub behind-done : (succ remaining : List ℕ) (i behind k v : ℕ) → k ≡ v → Behind succ k remaining i behind → Behind succ v remaining i behind
-behind-done succ remaining i behind k v e h u = h u ∙ ap (λ (n : ℕ). not (all n (lets succ remaining i u))) e
+  -- of one of the sixteen
+  pub left-in : i < 16 → (set : ℕ) → set ≡ setOf 16 (somethingLeft rest i) → set ≡ setOf 16 (λ k. not (eqb (at rest i k) 0))
+  unfolding somethingLeft
+  left-in h set e = e ∙ ap (λ (c : Bool). setOf 16 (λ k. c && not (eqb (at rest i k) 0))) (lt-ltb i 16 h)
 
 -- ---- the vertices of a set that have their whole cost remaining
 module _ (set u left cost : ℕ) where

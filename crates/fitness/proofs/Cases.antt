@@ -2,14 +2,17 @@
 use mathlib.Core.Path.{_≡_, refl, sym, ap, _∙_}
 use mathlib.Core.Bool.{Bool, true, false, _&&_, _||_, not, Bool·not-not}
 use mathlib.Core.List.{List}
-use Prim.Native.Nat.{ℕ, _+_, _≤_, _<_}
+use Prim.Native.Nat.{ℕ, _+_, _≤_, _<_, min}
 use native.Mathlib.Omega.{arith}
 use lib.Dec.{ltb, leb, eqb}
 use borrow.Author.Tests.{lt-ltb, le-ltb, le-leb, lt-leb, eq-eqb, ne-eqb}
-use Rattle.graph.specs.Words.{pick, bit, all}
+use Rattle.graph.specs.Words.{flag, pick, bit, all, setOf}
+use Rattle.graph.specs.Graph.{edge, heldBack}
+use Rattle.graph.proofs.Sets.{bit-set}
+use Rattle.graph.proofs.Held.{held-by-set}
 use Rattle.table.specs.declared.Task.{Task}
 use Rattle.fitness.specs.Fitness.{at, nothingLeft, withinCost, used, clear, wholeBehind, liveFits, idleFits, zeroTask, taskFits}
-use Rattle.fitness.proofs.Behind.{all-same, lets, Behind}
+use Rattle.fitness.proofs.Behind.{all-same}
 
 -- ---- what remains of a task
 module _ (rest : List ℕ) (i : ℕ) where
@@ -74,15 +77,22 @@ module _ (a : Task) (costs : List ℕ) (left wait : ℕ) (rest : List ℕ) (i : 
       falls true y = refl
       falls false y = refl
 
--- the set that the code has at hand tells which vertices are clear
-pub whole-behind : (a : Task) (costs rest : List ℕ) (i v behind : ℕ) → v ≡ used (a .v) → Behind (a .succ) v rest i behind
+-- the sets that the code has at hand tell which vertices are clear
+pub whole-behind : (a : Task) (costs rest : List ℕ) (i v unfinished behind : ℕ) → v ≡ used (a .v) → unfinished ≡ setOf 16 (λ u. not (eqb (at rest i u) 0))
+    → behind ≡ setOf 16 (heldBack (min v 16) (edge (a .succ)) (λ u. flag (bit unfinished u)))
     → all v (λ u. not (bit behind u) || eqb (at rest i u) (at costs i u)) ≡ wholeBehind a costs rest i
-unfolding wholeBehind clear
-whole-behind a costs rest i v behind e h =
-    rw (← e) (all-same v _ _ (λ u b. ap (λ (x : Bool). x || eqb (at rest i u) (at costs i u)) (clear-bit u)))
+unfolding wholeBehind clear heldBack
+whole-behind a costs rest i v unfinished behind e o h =
+    let m : min v 16 ≡ used (a .v) = omega arith in
+    rw e (all-same (used (a .v)) _ _ (λ u b. ap (λ (x : Bool). x || eqb (at rest i u) (at costs i u)) (clear-bit m u (omega arith))))
   where
-    clear-bit : (u : ℕ) → not (bit behind u) ≡ all v (lets (a .succ) rest i u)
-    clear-bit u = ap not (h u) ∙ Bool·not-not _
+    clear-bit : min v 16 ≡ used (a .v) → (u : ℕ) → u < 16 → not (bit behind u) ≡ clear a rest i u
+    clear-bit m u b =
+        ap (λ (n : ℕ). not (bit n u)) h
+        ∙ ap not (bit-set 16 (heldBack (min v 16) (edge (a .succ)) (λ u. flag (bit unfinished u))) u b)
+        ∙ ap (λ (n : ℕ). not (heldBack n (edge (a .succ)) (λ u. flag (bit unfinished u)) u)) m
+        ∙ ap not (held-by-set (used (a .v)) (edge (a .succ)) (at rest i) unfinished (omega arith) o u)
+        ∙ Bool·not-not _
 
 -- ---- a task, used or not
 module _ (n : ℕ) (a : Task) (costs : List ℕ) (live : Bool) (left wait : ℕ) (rest : List ℕ) (i : ℕ) where

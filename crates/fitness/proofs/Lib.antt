@@ -1,4 +1,4 @@
--- A test of each number below n, and the vertices with an unfinished direct predecessor as a set.
+-- A test of each number below n, and the vertices of which something remains as a set.
 pub mod Behind
 -- The cases that the code tells apart, each with what the rules say of it.
 pub mod Cases

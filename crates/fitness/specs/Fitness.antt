@@ -1,12 +1,12 @@
--- Which numbers of a task fit: document 01, "A running state fits if ..", over the rows of 256 numbers and a task's entry, any
--- numbers in them. That the machine's rules say the same of a good table's task is in crate machine, proofs/Fits.
+-- Which numbers of a task fit: document 01, "A running state fits if ..", with document 02's M-103, over the rows of 256 numbers and a
+-- task's entry, any numbers in them. That the machine's rules say the same of a good table's task is in crate machine, proofs/Fits.
 use mathlib.Core.Bool.{Bool, _&&_, _||_, not}
 use mathlib.Core.List.{List}
 use Prim.Native.Nat.{ℕ, _+_, _*_, min}
 use lib.ListN.{getD}
 use lib.Dec.{ltb, leb, eqb}
 use Rattle.graph.specs.Words.{pick, all}
-use Rattle.graph.specs.Graph.{edge}
+use Rattle.graph.specs.Graph.{edge, done}
 use Rattle.table.specs.declared.Task.{Task}
 
 -- task i's number of vertex u: "indexed by sixteen times task plus vertex"
@@ -17,6 +17,10 @@ at row i u = getD row (16 * i + u) 0
 unfoldable pub nothingLeft : List ℕ → ℕ → Bool
 nothingLeft rest i = leb 16 i || all 16 (λ u. eqb (at rest i u) 0)
 
+-- something remains of vertex u of task i
+unfoldable pub somethingLeft : List ℕ → ℕ → ℕ → Bool
+somethingLeft rest i u = ltb i 16 && not (eqb (at rest i u) 0)
+
 -- "no remaining above its cost"; the cost of a vertex that is not used is 0
 unfoldable pub withinCost : List ℕ → List ℕ → ℕ → Bool
 withinCost costs rest i = all 16 (λ u. leb (at rest i u) (at costs i u))
@@ -25,16 +29,16 @@ withinCost costs rest i = all 16 (λ u. leb (at rest i u) (at costs i u))
 abbrev pub used : ℕ → ℕ
 used v = min v 16
 
--- every direct predecessor has nothing remaining
+-- every direct predecessor is done: "a vertex is done when nothing of it remains and all its direct predecessors are done"
 unfoldable pub clear : Task → List ℕ → ℕ → ℕ → Bool
-clear a rest i u = all (used (a .v)) (λ w. not (edge (a .succ) w u) || eqb (at rest i w) 0)
+clear a rest i u = all (used (a .v)) (λ w. not (edge (a .succ) w u) || done (used (a .v)) (edge (a .succ)) (at rest i) w)
 
--- "a vertex with an unfinished direct predecessor still has its whole cost"
+-- "a vertex with a predecessor not done still has its whole cost" (document 02)
 unfoldable pub wholeBehind : Task → List ℕ → List ℕ → ℕ → Bool
 wholeBehind a costs rest i = all (used (a .v)) (λ u. clear a rest i u || eqb (at rest i u) (at costs i u))
 
 -- "each live task has ticks left from 1 to D minus 1, wait equal to T minus D plus ticks left, no remaining above its
--- cost, some remaining above 0, and a vertex with an unfinished direct predecessor still has its whole cost"
+-- cost, some remaining above 0", and what document 02 says of a vertex with a predecessor not done
 unfoldable pub liveFits : Task → List ℕ → ℕ → ℕ → List ℕ → ℕ → Bool
 liveFits a costs left wait rest i =
     leb 1 left && ltb left (a .d)

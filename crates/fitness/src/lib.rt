@@ -3,9 +3,8 @@ ghost use mathlib.Core.Path.{_≡_};
 ghost use mathlib.Core.Bool.{_||_, not};
 ghost use Prim.Native.Nat.{ℕ, _≤_, _<_, min};
 ghost use lib.Dec.{eqb};
-ghost use Rattle.graph.specs.Words.{bit, all};
-ghost use Rattle.graph.specs.Graph.{edge};
-ghost use Rattle.fitness.specs.Fitness.{at, nothingLeft, withinCost, liveFits, idleFits, zeroTask, taskFits};
+ghost use Rattle.graph.specs.Words.{bit, all, setOf};
+ghost use Rattle.fitness.specs.Fitness.{at, nothingLeft, somethingLeft, withinCost, liveFits, idleFits, zeroTask, taskFits};
 use table::Task;
 
 // Whether nothing remains of task i.
@@ -21,6 +20,22 @@ pub fn nothing_left(remaining: &[u32; 256], i: usize) -> bool
         }
     }
     true
+}
+
+// The vertices of task i of which something remains.
+pub fn unfinished(remaining: &[u32; 256], i: usize) -> u16
+    ensures { λ r. ⌜ r ≡ setOf 16 (somethingLeft (now (remaining .entry)) i) ⌝ }
+{
+    if i >= 16 {
+        return 0;
+    }
+    let mut set: u16 = 0;
+    for u in 0..16usize {
+        if remaining[16 * i + u] != 0 {
+            set |= 1u16 << u;
+        }
+    }
+    set
 }
 
 // A task of zeros: not live, no wait, and nothing remains.
@@ -58,20 +73,6 @@ fn used(v: u8) -> usize
         return v as usize;
     }
     16
-}
-
-// The vertices with an unfinished direct predecessor, among v vertices.
-fn blocked(succ: [u16; 16], v: usize, remaining: &[u32; 256], i: usize) -> u16
-    requires { ⌜ (i < 16) × (v ≤ 16) ⌝ }
-    ensures { λ r. ⌜ ((u : ℕ) → bit r u ≡ not (all v (λ w. not (edge succ w u) || eqb (at (now (remaining .entry)) i w) 0))) ⌝ }
-{
-    let mut behind: u16 = 0;
-    for w in 0..v {
-        if remaining[16 * i + w] != 0 {
-            behind |= succ[w];
-        }
-    }
-    behind
 }
 
 // Each of the first v vertices that is in a set has its whole cost remaining.
@@ -117,7 +118,7 @@ fn fits_live(
     }
     let v = used(a.v);
     let succ = a.succ;
-    let behind = blocked(succ, v, remaining, i);
+    let behind = graph::held_back(succ, v, unfinished(remaining, i));
     whole_in(behind, v, costs, remaining, i)
 }
 

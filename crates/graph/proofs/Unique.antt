@@ -6,6 +6,8 @@ use denote.Triple.Clauses.{AtExit}
 use borrow.Fn.Kinds.{PK, RK, Out, Dens, resT, endedOf}
 use Rattle.graph.proofs.is_acyclic.Kinds as is-acyclic-kinds
 use Rattle.graph.proofs.is_acyclic.Reads as is-acyclic-reads
+use Rattle.graph.proofs.held_back.Kinds as held-back-kinds
+use Rattle.graph.proofs.held_back.Reads as held-back-reads
 use Rattle.graph.proofs.longest.Kinds as longest-kinds
 use Rattle.graph.proofs.longest.Reads as longest-reads
 
@@ -20,6 +22,9 @@ OneResult ps r Allowed =
 
 pub is-acyclic-one : OneResult is-acyclic-kinds.ps is-acyclic-kinds.r is-acyclic-reads.Post
 is-acyclic-one κs args x y s t = by-definition
+
+pub held-back-one : OneResult held-back-kinds.ps held-back-kinds.r held-back-reads.Post
+held-back-one κs args x y s t = by-definition
 
 pub longest-one : OneResult longest-kinds.ps longest-kinds.r longest-reads.Post
 longest-one κs args x y s t = by-definition

@@ -18,7 +18,7 @@ use Rattle.machine.specs.Steps.{clear, nothingLeft}
 use Rattle.machine.specs.Fitting.{zeroTaskIn, withinCost, wholeBehind, fitsLive, fitsIdle, fitsTask, fitsPhase, fits}
 
 -- "each live task has ticks left from 1 to D minus 1, wait equal to T minus D plus ticks left, no remaining above its cost, some
--- remaining above 0, and a vertex with an unfinished direct predecessor still has its whole cost"
+-- remaining above 0", and "a vertex with a predecessor not done still has its whole cost"
 pub record LiveFits (t : Table) (st : State) (i : ℕ) : Type 0 where
   pub ahead : 1 ≤ left st i
   pub soon : left st i ≤ D t i - 1

@@ -90,7 +90,7 @@ module _ (t : Table) (st : State) (i : ℕ) (b : i < 16) (good : GoodTask t i) w
   unfolding fitness.withinCost withinCost remaining cost
   within-same = all-same 16 _ _ (λ u c. within-one u c (decLt u (vertices t i)))
 
-  -- "a vertex with an unfinished direct predecessor still has its whole cost"
+  -- "a vertex with a predecessor not done still has its whole cost"
   whole-same : fitness.wholeBehind (task t i) (t .costs) (st .remaining) i ≡ wholeBehind t st i
   unfolding fitness.wholeBehind fitness.clear wholeBehind clear edgeIn remaining cost vertices succ
   whole-same = rw (min-eq-left (good .v-high)) refl

@@ -4,7 +4,7 @@ use mathlib.Core.Bool.{Bool, true}
 use Prim.Native.Nat.{ℕ, _^_, _<_}
 use native.Mathlib.Omega.{arith}
 use native.Mathlib.Decide.{decLt}
-use Rattle.graph.proofs.Facts.{off-when}
+use Rattle.graph.proofs.Facts.{clash, off-when}
 use Rattle.table.specs.declared.Table.{Table}
 use Rattle.table.specs.Memory.{vertices, D, T}
 use Rattle.table.specs.Good.{GoodTask, GoodTable}
@@ -33,10 +33,9 @@ module _ (t : Table) (good : GoodTable t) (st : State) (fitting : fits t st ≡ 
         small = range .deadlines i (sixteen i b) e;
         ahead = f .ahead;
         within = λ u c. elim (decLt u (vertices t i)) [ yes l ↦ f .within u c l | no l ↦ let z = f .spare u c (omega arith) in omega arith ];
-        some = something st i (f .some);
         behind = λ u w l₁ l₂ x y.
             let o = good .each i b .ends w u x in
-            f .behind u (o .1) (off-when (clear t st i u) (λ c. let z = clear-is t st i u c w (o .0) x in omega arith));
+            f .behind u (o .1) (off-when (clear t st i u) (λ c. clash (clear-is t st i u c w (o .0) x) y));
       }
 
   pub fits-stands : Standing t st
@@ -44,6 +43,7 @@ module _ (t : Table) (good : GoodTable t) (st : State) (fitting : fits t st ≡ 
     running = running;
     clock = range .clock;
     going = goes;
+    some = λ i b e. something st i (live-task t st fitting running i (sixteen i b) b e .some);
     soon = λ i b e.
         let f = live-task t st fitting running i (sixteen i b) b e .soon in
         let d = good .each i b .D-low in

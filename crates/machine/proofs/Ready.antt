@@ -1,144 +1,56 @@
--- Step 2 in code: the set of vertices that is gathered in one pass over a task is that of its available ones.
+-- Step 2 in code: what remains of a task and what holds its vertices back, as sets, give the set of its available ones.
 use mathlib.Core.Path.{_≡_, refl, sym, ap, _∙_}
-use mathlib.Core.Bool.{Bool, true, false, _&&_, _||_, not}
+use mathlib.Core.Bool.{Bool, true, false, _&&_, _||_, not, Bool·not-not}
 use mathlib.Core.List.{List}
-use Prim.Native.Nat.{ℕ, zero, suc, _+_, _-_, _*_, _/_, _%_, _^_, _≤_, _<_}
+use Prim.Native.Nat.{ℕ, zero, suc, _+_, _-_, _*_, _/_, _%_, _^_, _≤_, _<_, min}
 use native.Mathlib.Omega.{arith}
-use native.Mathlib.Numerals.{add-one}
-use native.Mathlib.Decide.{ℕ-discrete, decLt, decLe}
+use native.Mathlib.Nat.{min-eq-left, min-eq-right}
+use native.Mathlib.Decide.{decLe}
 use lib.ListN.{length, getD}
 use lib.Dec.{ltb, eqb}
-use lib.Bits.{bitAnd, bitOr, or-lt, and-le-r}
-use borrow.Author.Tests.{lt-ltb, le-ltb, eq-eqb, ne-eqb}
-use Rattle.graph.specs.Words.{pick, bit, sum, all, setOf}
-use Rattle.graph.specs.Graph.{edge}
-use Rattle.graph.proofs.Facts.{sum-same, row-at, past-end}
-use Rattle.graph.proofs.Bits.{bit-or, bit-zero, bit-one, bit-ext, one-shl}
+use lib.Bits.{bitAnd, and-le-r}
+use borrow.Author.Tests.{lt-ltb, ne-eqb}
+use Rattle.graph.specs.Words.{flag, pick, bit, sum, all, setOf}
+use Rattle.graph.specs.Graph.{edge, doneWithin, done, heldBack}
+use Rattle.graph.proofs.Facts.{sum-same, row-at, past-end, all-same}
+use Rattle.graph.proofs.Bits.{bit-zero}
 use Rattle.graph.proofs.Members.{bit-without}
+use Rattle.graph.proofs.Sets.{set-small, bit-set, set-is}
+use Rattle.graph.proofs.Held.{held-by-set}
 use Rattle.table.specs.declared.Table.{Table}
 use Rattle.table.specs.Memory.{vertices, succ, edgeIn}
+use Rattle.fitness.specs.Fitness.{somethingLeft}
+use Rattle.fitness.proofs.Behind.{left-in}
 use Rattle.machine.specs.declared.State.{State}
 use Rattle.machine.specs.States.{activity, isLive, live, deadlineOf, deadline, remaining, wrap, ticksLeft, left}
 use Rattle.machine.specs.Steps.{clear, available, availableSets}
-use Rattle.machine.specs.Choosing.{isDone, isReady, inSets}
-use Rattle.fitness.proofs.Behind.{all-same}
-use Rattle.machine.proofs.Searching.{set-small, bit-set}
+use Rattle.machine.specs.Choosing.{isReady, inSets}
 
--- one member more, as the code `x | (1 << j)` says it
-one-more : (x j k : ℕ) → j < 16 → bit (bitOr x (1 * 2 ^ j % 65536)) k ≡ (bit x k || eqb k j)
-one-more x j k h =
-    bit-or x (1 * 2 ^ j % 65536) k ∙ ap (λ (b : Bool). bit x k || b) (ap (λ (n : ℕ). bit n k) (one-shl j h) ∙ bit-one j k)
-
--- those below u + 1 are those below u, and u
-one-below : (p : ℕ → Bool) (u k : ℕ) → ((ltb k u && p k) || (eqb k u && p u)) ≡ (ltb k (u + 1) && p k)
-one-below p u k = elim (ℕ-discrete k u) [
-  | yes e ↦ rw (e, eq-eqb u u refl, le-ltb u u (omega arith), lt-ltb u (u + 1) (omega arith)) refl
-  | no d ↦ other (ltb k u) refl (ne-eqb k u d) d
-]
+-- A TASK'S READY VERTICES: those with something remaining that nothing holds back
+pub ready-set : (succs : List ℕ) (v : ℕ) (rest : List ℕ) (i unfinished behind : ℕ) → i < 16 → unfinished ≡ setOf 16 (somethingLeft rest i)
+    → behind ≡ setOf 16 (heldBack (min v 16) (edge succs) (λ u. flag (bit unfinished u)))
+    → bitAnd unfinished (65535 - behind) ≡ setOf 16 (isReady succs v rest i)
+unfolding isReady
+ready-set succs v rest i unfinished behind h o q =
+    let l = left-in rest i h unfinished o in
+    let n = and-le-r unfinished (65535 - behind) in
+    set-is 16 (bitAnd unfinished (65535 - behind)) (isReady succs v rest i) (omega arith)
+    (λ u b.
+    bit-without unfinished behind small u b
+    ∙ ap (λ (c : Bool). c && not (bit behind u)) (ap (λ (x : ℕ). bit x u) l ∙ bit-set 16 (λ k. not (eqb (getD rest (16 * i + k) 0) 0)) u b)
+    ∙ ap (λ (c : Bool). not (eqb (getD rest (16 * i + u) 0) 0) && not c) (held u b l))
   where
-    none : (b : Bool) → (b || false) ≡ b
-    none true = refl
-    none false = refl
+    small : behind < 2 ^ 16
+    small = rw q (set-small (heldBack (min v 16) (edge succs) (λ u. flag (bit unfinished u))) 16)
 
-    other : (c : Bool) → ltb k u ≡ c → eqb k u ≡ false → (k ≡ u → ⊥) → ((ltb k u && p k) || (eqb k u && p u)) ≡ (ltb k (u + 1) && p k)
-    other c e f d = elim (decLt k u) [
-      | yes l ↦ rw (f, lt-ltb k u l, lt-ltb k (u + 1) (omega arith)) (none (p k))
-      | no l ↦ rw (f, le-ltb k u (omega arith), le-ltb k (u + 1) (omega arith)) refl
-    ]
+    held : (u : ℕ) → u < 16 → unfinished ≡ setOf 16 (λ k. not (eqb (getD rest (16 * i + k) 0) 0)) → bit behind u ≡ heldBack (min v 16) (edge succs) (λ w. getD rest (16 * i + w) 0) u
+    held u b l =
+        ap (λ (x : ℕ). bit x u) q
+        ∙ bit-set 16 (heldBack (min v 16) (edge succs) (λ u. flag (bit unfinished u))) u b
+        ∙ held-by-set (min v 16) (edge succs) (λ w. getD rest (16 * i + w) 0) unfinished (omega arith) l u
 
-module _ (succs : List ℕ) (v : ℕ) (rest : List ℕ) (i : ℕ) where
-  -- an edge from u, one of the first v, does not hold w back
-  abbrev lets : ℕ → ℕ → Bool
-  lets w u = not (ltb u v && edge succs u w) || isDone rest i u
-
-  -- when the first u vertices were seen: those with something remaining, and all to which they lead
-  pub record Seen (u unfinished led : ℕ) : Type 0 where
-    pub below : u ≤ 16
-    pub small : led < 2 ^ 16
-    pub own : (k : ℕ) → bit unfinished k ≡ (ltb k u && not (isDone rest i k))
-    pub free : (w : ℕ) → not (bit led w) ≡ all u (lets w)
-
-  pub seen-none : Seen 0 0 0
-  unfolding all
-  seen-none = record {
-    below = omega arith;
-    small = omega arith;
-    own = λ k. bit-zero k ∙ sym (ap (λ (b : Bool). b && not (isDone rest i k)) (le-ltb k 0 (omega arith)));
-    free = λ w. ap not (bit-zero w);
-  }
-
-  module _ (u unfinished led : ℕ) (h : u < 16) (s : Seen u unfinished led) where
-    all-next : (w : ℕ) → all (u + 1) (lets w) ≡ (all u (lets w) && lets w u)
-    unfolding all
-    all-next w = ap (λ (n : ℕ). all n (lets w)) (add-one u)
-
-    -- x are its successors, none where it is not used
-    pub seen-open : (x : ℕ) → x ≡ pick (ltb u v) (getD succs u 0) 0 → x < 2 ^ 16 → isDone rest i u ≡ false
-        → Seen (u + 1) (bitOr unfinished (1 * 2 ^ u % 65536)) (bitOr led x)
-    unfolding edge
-    seen-open x q b e = record {
-      below = omega arith;
-      small = or-lt 16 led x (s .small) b;
-      own = λ k.
-          one-more unfinished u k h
-          ∙ ap (λ (d : Bool). d || eqb k u) (s .own k)
-          ∙ ap (λ (d : Bool). (ltb k u && not (isDone rest i k)) || d) (sym (yes-and (eqb k u) (isDone rest i u) e))
-          ∙ one-below (λ x. not (isDone rest i x)) u k;
-      free = λ w.
-          ap not (bit-or led x w ∙ ap (λ (n : ℕ). bit led w || bit n w) q ∙ ap (λ (c : Bool). bit led w || c) (led-by (ltb u v) w))
-          ∙ neither (bit led w) (ltb u v && bit (getD succs u 0) w) (isDone rest i u) e
-          ∙ ap (λ (d : Bool). d && lets w u) (s .free w)
-          ∙ sym (all-next w);
-    }
-      where
-        led-by : (c : Bool) (w : ℕ) → bit (pick c (getD succs u 0) 0) w ≡ (c && bit (getD succs u 0) w)
-        led-by true w = refl
-        led-by false w = bit-zero w
-
-        yes-and : (a d : Bool) → d ≡ false → (a && not d) ≡ a
-        yes-and true d e = ap not e
-        yes-and false d e = refl
-
-        neither : (a c d : Bool) → d ≡ false → not (a || c) ≡ (not a && (not c || d))
-        neither true c d e = refl
-        neither false true d e = sym e
-        neither false false d e = refl
-
-    pub seen-done : isDone rest i u ≡ true → Seen (u + 1) unfinished led
-    seen-done e = record {
-      below = omega arith;
-      small = s .small;
-      own = λ k.
-          s .own k
-          ∙ no-more (ltb k u && not (isDone rest i k)) (eqb k u) (isDone rest i u) e
-          ∙ one-below (λ x. not (isDone rest i x)) u k;
-      free = λ w. s .free w ∙ lets-all (all u (lets w)) (ltb u v && edge succs u w) (isDone rest i u) e ∙ sym (all-next w);
-    }
-      where
-        no-more : (a c d : Bool) → d ≡ true → a ≡ (a || (c && not d))
-        no-more true c d e = refl
-        no-more false true d e = sym (ap not e)
-        no-more false false d e = refl
-
-        lets-all : (a c d : Bool) → d ≡ true → a ≡ (a && (not c || d))
-        lets-all true true d e = sym e
-        lets-all true false d e = refl
-        lets-all false c d e = refl
-
-  -- when all were seen, those that nothing leads to are ready
-  pub seen-all : (unfinished led : ℕ) → Seen 16 unfinished led → bitAnd unfinished (65535 - led) ≡ setOf 16 (isReady succs v rest i)
-  unfolding isReady
-  seen-all unfinished led s =
-      let n = and-le-r unfinished (65535 - led) in
-      bit-ext 16 (bitAnd unfinished (65535 - led)) (setOf 16 (isReady succs v rest i)) (omega arith) (set-small (isReady succs v rest i) 16)
-      (λ u h.
-      bit-without unfinished led (s .small) u h
-      ∙ ap (λ (b : Bool). b && not (bit led u)) (s .own u ∙ ap (λ (b : Bool). b && not (isDone rest i u)) (lt-ltb u 16 h))
-      ∙ ap (λ (b : Bool). not (isDone rest i u) && b) (s .free u)
-      ∙ sym (bit-set 16 (isReady succs v rest i) u h))
-
--- ---- it is all the same whether the first v vertices are asked or all sixteen, those from v on leading nowhere
-all-upto : (v n : ℕ) (p : ℕ → Bool) → v ≤ n → ((j : ℕ) → v ≤ j → j < n → p j ≡ true) → all n p ≡ all v p
+-- ---- it is all the same whether all are asked or the first sixteen, those past them leading nowhere
+pub all-upto : (v n : ℕ) (p : ℕ → Bool) → v ≤ n → ((j : ℕ) → v ≤ j → j < n → p j ≡ true) → all n p ≡ all v p
 unfolding all
 all-upto v zero p h k = let z : v ≡ 0 = omega arith in rw z refl
 all-upto v (suc n) p h k = elim (decLe v n) [
@@ -150,24 +62,37 @@ all-upto v (suc n) p h k = elim (decLe v n) [
     more true b e = e
     more false b e = refl
 
-all-narrow : (v : ℕ) (e d : ℕ → Bool) → ((w : ℕ) → 16 ≤ w → e w ≡ false) → all v (λ w. not (e w) || d w) ≡ all 16 (λ w. not (ltb w v && e w) || d w)
-all-narrow v e d past = elim (decLe v 16) [
-  | yes h ↦
-      all-same v _ _ (λ w b. ap (λ (c : Bool). not (c && e w) || d w) (sym (lt-ltb w v b)))
-      ∙ sym (all-upto v 16 _ h (λ w a b. ap (λ (c : Bool). not (c && e w) || d w) (le-ltb w v a)))
-  | no h ↦
-      all-upto 16 v _ (omega arith) (λ w a b. ap (λ (c : Bool). not c || d w) (past w a))
-      ∙ all-same 16 _ _ (λ w b. ap (λ (c : Bool). not (c && e w) || d w) (sym (lt-ltb w v (omega arith))))
-]
+module _ (v : ℕ) (E : ℕ → ℕ → Bool) (rest : ℕ → ℕ) (many : 16 ≤ v) (past : (w u : ℕ) → 16 ≤ w → E w u ≡ false) where
+  asked : (p : ℕ → Bool) (u : ℕ) → all v (λ w. not (E w u) || p w) ≡ all 16 (λ w. not (E w u) || p w)
+  asked p u = all-upto 16 v _ many (λ w a b. ap (λ (c : Bool). not c || p w) (past w u a))
+
+  within-narrow : (k u : ℕ) → doneWithin k v E rest u ≡ doneWithin k 16 E rest u
+  unfolding doneWithin
+  within-narrow zero u = refl
+  within-narrow (suc k) u =
+      ap (λ (b : Bool). eqb (rest u) 0 && b)
+      (asked (doneWithin k v E rest) u ∙ all-same 16 _ _ (λ w b. ap (λ (c : Bool). not (E w u) || c) (within-narrow k w)))
+
+  clear-narrow : (u : ℕ) → all v (λ w. not (E w u) || done v E rest w) ≡ all 16 (λ w. not (E w u) || done 16 E rest w)
+  unfolding done
+  clear-narrow u = asked (doneWithin 16 v E rest) u ∙ all-same 16 _ _ (λ w b. ap (λ (c : Bool). not (E w u) || c) (within-narrow 16 w))
 
 module _ (t : Table) (i : ℕ) (sixteen : length (succ t i) ≡ 16) where
-  clear-is : (st : State) (u : ℕ) → clear t st i u ≡ all 16 (λ w. not (ltb w (vertices t i) && edge (succ t i) w u) || isDone (st .remaining) i w)
-  unfolding clear edgeIn edge isDone remaining
-  clear-is st u = all-narrow (vertices t i) (λ w. bit (getD (succ t i) w 0) u) (λ w. eqb (getD (st .remaining) (16 * i + w) 0) 0)
-      (λ w h. ap (λ (n : ℕ). bit n u) (past-end (succ t i) w 0 (omega arith)) ∙ bit-zero u)
+  past : (w u : ℕ) → 16 ≤ w → edge (succ t i) w u ≡ false
+  unfolding edge
+  past w u h = ap (λ (n : ℕ). bit n u) (past-end (succ t i) w 0 (omega arith)) ∙ bit-zero u
+
+  clear-is : (st : State) (u : ℕ) → clear t st i u ≡ not (heldBack (min (vertices t i) 16) (edge (succ t i)) (λ w. getD (st .remaining) (16 * i + w) 0) u)
+  unfolding clear heldBack edgeIn remaining
+  clear-is st u = elim (decLe (vertices t i) 16) [
+    | yes h ↦ rw (min-eq-left h) (sym (Bool·not-not _))
+    | no h ↦
+        let k : 16 ≤ vertices t i = omega arith in
+        rw (min-eq-right k) (clear-narrow (vertices t i) (edge (succ t i)) (λ w. getD (st .remaining) (16 * i + w) 0) k past u ∙ sym (Bool·not-not _))
+  ]
 
   available-in : (st : State) (u : ℕ) → u < 16 → available t st (16 * i + u) ≡ (isLive (activity st i) && isReady (succ t i) (vertices t i) (st .remaining) i u)
-  unfolding available live isReady isDone remaining
+  unfolding available live isReady remaining
   available-in st u h =
       let e : (16 * i + u) / 16 ≡ i = omega arith in
       let f : (16 * i + u) % 16 ≡ u = omega arith in

@@ -1,21 +1,17 @@
 -- How the code takes steps 2 and 3, for the contracts of its parts: each task has a set of vertices as sixteen bits.
 use mathlib.Core.Path.{_≡_}
-use mathlib.Core.Bool.{Bool, _&&_, _||_, not}
+use mathlib.Core.Bool.{Bool, _&&_, not}
 use mathlib.Core.List.{List}
-use Prim.Native.Nat.{ℕ, _+_, _*_, _/_, _%_, _≤_, _<_}
+use Prim.Native.Nat.{ℕ, _+_, _*_, _/_, _%_, _≤_, _<_, min}
 use lib.ListN.{getD}
-use lib.Dec.{ltb, eqb}
-use Rattle.graph.specs.Words.{bit, all}
-use Rattle.graph.specs.Graph.{edge}
+use lib.Dec.{eqb}
+use Rattle.graph.specs.Words.{bit}
+use Rattle.graph.specs.Graph.{edge, heldBack}
 
--- nothing remains of vertex u of task i, by the row of what remains
-unfoldable pub isDone : List ℕ → ℕ → ℕ → Bool
-isDone rest i u = eqb (getD rest (16 * i + u) 0) 0
-
--- step 2, by a task's successors, its v and the row of what remains: "it has something remaining, and every direct predecessor
--- has nothing remaining"; a vertex from v on leads nowhere
+-- step 2, by a task's successors, its v and the row of what remains: it has something remaining, and no direct predecessor that is not
+-- done; a vertex from v on leads nowhere
 unfoldable pub isReady : List ℕ → ℕ → List ℕ → ℕ → ℕ → Bool
-isReady succ v rest i u = not (isDone rest i u) && all 16 (λ w. not (ltb w v && edge succ w u) || isDone rest i w)
+isReady succ v rest i u = not (eqb (getD rest (16 * i + u) 0) 0) && not (heldBack (min v 16) (edge succ) (λ w. getD rest (16 * i + w) 0) u)
 
 -- sixteen sets, one a task: vertex k % 16 of task k / 16 is in its task's
 unfoldable pub inSets : List ℕ → ℕ → Bool

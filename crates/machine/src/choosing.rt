@@ -4,7 +4,7 @@ ghost use mathlib.Core.Bool.{_&&_, not, true, false};
 ghost use Prim.Native.Nat.{ℕ, _+_, _≤_, _<_};
 ghost use lib.ListN.{length, take};
 ghost use lib.Dec.{eqb};
-ghost use Rattle.graph.specs.Words.{pick, bit, row, setOf};
+ghost use Rattle.graph.specs.Words.{bit, row, setOf};
 ghost use Rattle.table.specs.Good.{GoodTable};
 ghost use Rattle.machine.specs.States.{isLive, deadlineOf, left};
 ghost use Rattle.machine.specs.Steps.{availableSets, ownChoice};
@@ -24,30 +24,13 @@ fn deadline_of(a: Activity) -> u32
     }
 }
 
-// A vertex's successors, none where it is not used.
-fn successors(set: u16, used: bool) -> u16
-    ensures { λ r. ⌜ r ≡ pick used set 0 ⌝ }
-{
-    if used {
-        return set;
-    }
-    0
-}
-
-// The vertices of task i with something remaining to which none such of the first v leads.
+// The vertices of task i with something remaining to which none of the first v leads that is not done.
 fn ready_in(succ: [u16; 16], v: usize, remaining: &[u32; 256], i: usize) -> u16
     requires { ⌜ i < 16 ⌝ }
     ensures { λ r. ⌜ r ≡ setOf 16 (isReady succ v (now (remaining .entry)) i) ⌝ }
 {
-    let mut unfinished: u16 = 0;
-    let mut led: u16 = 0;
-    for u in 0..16usize {
-        if remaining[16 * i + u] != 0 {
-            unfinished |= 1u16 << u;
-            led |= successors(succ[u], u < v);
-        }
-    }
-    unfinished & !led
+    let unfinished = fitness::unfinished(remaining, i);
+    unfinished & !graph::held_back(succ, v, unfinished)
 }
 
 // Task i's available vertices: those of a live job; an idle task has none.

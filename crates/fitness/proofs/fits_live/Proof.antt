@@ -3,6 +3,7 @@ use mathlib.Core.Path.{sym, _∙_}
 use native.Mathlib.Omega.{arith}
 use borrow.Author.Tests.{not-true, not-false}
 use borrow.Author.Needs.{needs}
+use Rattle.fitness.proofs.Behind.{left-in}
 use Rattle.fitness.proofs.Cases.{no-ticks, too-many, other-wait, above-cost, all-finished, last-clause, whole-behind}
 use Rattle.fitness.proofs.fits_live.Statement.{statement}
 use Rattle.fitness.proofs.fits_live.Tie as tie
@@ -45,17 +46,20 @@ returns-5 c =
 used-requires : tie.Need-used-requires
 used-requires c κs = search needs
 
-blocked-requires : tie.Need-blocked-requires
-blocked-requires c κs = search needs
+unfinished-requires : tie.Need-unfinished-requires
+unfinished-requires c κs = search needs
+
+held-back-requires : tie.Need-held-back-requires
+held-back-requires c κs = search needs
 
 whole-in-requires : tie.Need-whole-in-requires
 whole-in-requires c κs = search needs
 
 returns-6 : tie.Need-returns-6
 returns-6 c =
-    let b = c .before .before .before .before in
+    let b = c .before .before .before .before .before in
     c .whole-in .ensures
-    ∙ whole-behind _ _ _ _ _ _ (c .before .before .before .used .ensures) (c .before .blocked .ensures)
+    ∙ whole-behind _ _ _ _ _ _ _ (c .before .before .before .before .used .ensures) (left-in _ _ (omega arith) _ (c .before .before .unfinished .ensures)) (c .before .held-back .ensures)
     ∙ last-clause _ _ _ _ _ _ (omega arith) (omega arith) (omega arith)
     (sym (b .before .before .before .within-cost .ensures) ∙ not-false _ (b .before .before .if4 .left)) (sym (b .before .nothing-left .ensures) ∙ b .if5 .left)
 
@@ -75,6 +79,7 @@ fits-live-spec =
     nothing-left-requires
     returns-5
     used-requires
-    blocked-requires
+    unfinished-requires
+    held-back-requires
     whole-in-requires
     returns-6)
