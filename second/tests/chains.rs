@@ -23,9 +23,17 @@ fn by_listing(succ: &[u16; ENTRIES], costs: &[u32; ENTRIES], v: usize) -> Vec<u8
     for h in 0..v as u8 {
         onward(succ, vec![h], &mut all);
     }
-    let sum = |chain: &[u8]| -> u64 { chain.iter().map(|h| u64::from(costs[usize::from(*h)])).sum() };
+    let sum = |chain: &[u8]| -> u64 {
+        chain
+            .iter()
+            .map(|h| u64::from(costs[usize::from(*h)]))
+            .sum()
+    };
     let most = all.iter().map(|chain| sum(chain)).max().unwrap();
-    all.into_iter().filter(|chain| sum(chain) == most).min().unwrap()
+    all.into_iter()
+        .filter(|chain| sum(chain) == most)
+        .min()
+        .unwrap()
 }
 
 fn row<T: Copy + Default>(given: &[T]) -> [T; ENTRIES] {
@@ -42,7 +50,9 @@ fn of(costs: &[u32], edges: &[(usize, usize)]) -> Vec<u8> {
     }
     let found = longest_named(&succ, &row(costs), costs.len());
     assert_eq!(found.list(), by_listing(&succ, &row(costs), costs.len()));
-    assert!(found.vertices[found.list().len()..].iter().all(|h| *h == 255));
+    assert!(found.vertices[found.list().len()..]
+        .iter()
+        .all(|h| *h == 255));
     found.list().to_vec()
 }
 
@@ -59,7 +69,10 @@ fn equal_chains() {
     assert_eq!(of(&[2, 2], &[]), [0]);
     assert_eq!(of(&[1, 1, 2], &[(0, 1)]), [0, 1]);
     assert_eq!(of(&[2, 1, 1], &[(1, 2)]), [0]);
-    assert_eq!(of(&[1, 2, 2, 1], &[(0, 2), (0, 1), (1, 3), (2, 3)]), [0, 1, 3]);
+    assert_eq!(
+        of(&[1, 2, 2, 1], &[(0, 2), (0, 1), (1, 3), (2, 3)]),
+        [0, 1, 3]
+    );
     assert_eq!(of(&[1, 1, 3], &[(2, 0), (0, 1)]), [2, 0, 1]);
 }
 
@@ -88,7 +101,9 @@ fn all_chains() {
 
 #[test]
 fn sixteen_vertices_and_every_edge() {
-    let edges: Vec<_> = (0..ENTRIES).flat_map(|i| (i + 1..ENTRIES).map(move |j| (i, j))).collect();
+    let edges: Vec<_> = (0..ENTRIES)
+        .flat_map(|i| (i + 1..ENTRIES).map(move |j| (i, j)))
+        .collect();
     assert_eq!(of(&[1; ENTRIES], &edges), (0..16).collect::<Vec<u8>>());
     assert_eq!(of(&[0; ENTRIES], &edges), [0]);
 }
@@ -115,10 +130,18 @@ fn of_the_task_that_is_named() {
         }
         let table: Table = found.table;
         let k = usize::from(answer.task);
-        let list = by_listing(&table.tasks[k].succ, table.costs_of(k), usize::from(table.tasks[k].v));
+        let list = by_listing(
+            &table.tasks[k].succ,
+            table.costs_of(k),
+            usize::from(table.tasks[k].v),
+        );
         assert_eq!(answer.chain.list(), list);
         let words: Vec<String> = list.iter().map(|h| h.to_string()).collect();
-        assert!(last.ends_with(&format!(" margin {} chain {}", answer.margin, words.join(" "))));
+        assert!(last.ends_with(&format!(
+            " margin {} chain {}",
+            answer.margin,
+            words.join(" ")
+        )));
         met[usize::from(answer.number == 0)] += 1;
     }
     assert!(met.iter().all(|times| *times > 50), "{met:?}");

@@ -17,7 +17,6 @@ pub record Holds (t : Table) (x : Measures) : Type 0 where
   pub T-is : (k : ℕ) → k < t .n → getD (x .periods) k 0 ≡ T t k
   pub vol-is : (k : ℕ) → k < t .n → getD (x .vols) k 0 ≡ vol t k
   pub len-is : (k : ℕ) → k < t .n → getD (x .lens) k 0 ≡ len t k
-
   -- from n on they are 0
   pub deadlines-are : x .deadlines ≡ upTo (t .n) (D t)
   pub vols-are : x .vols ≡ upTo (t .n) (vol t)

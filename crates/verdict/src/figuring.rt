@@ -9,8 +9,8 @@ ghost use Rattle.chains.specs.Chains.{answered};
 ghost use Rattle.table.specs.Good.{GoodTable};
 ghost use Rattle.verdict.specs.Verdicts.{len, roundedUp, chain};
 ghost use Rattle.verdict.specs.Measured.{Holds};
-use chains::ChainFound;
 use crate::Measures;
+use chains::ChainFound;
 use table::Table;
 
 // A number of 32 bits in 64.

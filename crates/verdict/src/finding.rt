@@ -36,7 +36,8 @@ fn findings_on(t: Table) -> Findings
 {
     let x = figuring::measures(t);
     let dues = dues_of(x);
-    let verdict = judging::verdict_by(t, x);
+    let d = judging::judged(x);
+    let verdict = judging::with_chain(t, d);
     let deadlines = x.deadlines;
     let vols = x.vols;
     let lens = x.lens;

@@ -12,7 +12,7 @@ use table::Outcome;
 use table::Table;
 
 // The margins of a good table's tasks in turn, by its measures: the first negative one, or the first that is the smallest.
-fn judged(x: Measures) -> Decided
+pub(crate) fn judged(x: Measures) -> Decided
     requires { ⌜ OfGood x ⌝ }
     ensures { λ r. ⌜ ((t : Table) → GoodTable t → Holds t x → r ≡ decided (verdictOn t)) ⌝ }
 {
@@ -47,12 +47,11 @@ fn judged(x: Measures) -> Decided
     }
 }
 
-// The verdict on a good table, by its measures: the task first, then that task's chain.
-pub(crate) fn verdict_by(t: Table, x: Measures) -> Verdict
-    requires { ⌜ GoodTable t × Holds t x ⌝ }
+// The verdict on a good table when its task is known: that task's chain is looked for, and no other's.
+pub(crate) fn with_chain(t: Table, d: Decided) -> Verdict
+    requires { ⌜ GoodTable t × (d ≡ decided (verdictOn t)) ⌝ }
     ensures { λ r. ⌜ r ≡ verdictOn t ⌝ }
 {
-    let d = judged(x);
     let c = figuring::chain_of(t, d.task as usize);
     let chain = c.vertices;
     Verdict {
@@ -71,7 +70,8 @@ fn verdict_on(t: Table) -> Verdict
     ensures { λ r. ⌜ r ≡ verdictOn t ⌝ }
 {
     let x = figuring::measures(t);
-    verdict_by(t, x)
+    let d = judged(x);
+    with_chain(t, d)
 }
 
 // What a file that reading refuses gets.

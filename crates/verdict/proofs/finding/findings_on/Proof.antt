@@ -9,16 +9,22 @@ measures-requires c κs = search needs
 dues-of-requires : tie.Need-dues-of-requires
 dues-of-requires c κs = search needs
 
-verdict-by-requires : tie.Need-verdict-by-requires
-verdict-by-requires c κs = search needs
+judged-requires : tie.Need-judged-requires
+judged-requires c κs = search needs
+
+with-chain-requires : tie.Need-with-chain-requires
+with-chain-requires c κs =
+    let s = c .before .before .before in
+    (s .pre, c .judged .ensures (s .args .t) (s .pre) (c .before .before .measures .ensures))
 
 returns : tie.Need-returns
 returns c =
-    let s = c .before .before .before .before .before .before in
-    let x = c .before .before .before .before .before .measures in
-    let d = c .before .before .before .before .dues-of in
-    all-found (s .args .t) (x .result) (d .result) _ (x .ensures) (d .ensures (s .args .t) (s .pre) (x .ensures)) (c .before .before .before .verdict-by .ensures)
+    let s = c .before .before .before .before .before .before .before in
+    let x = c .before .before .before .before .before .before .measures in
+    let d = c .before .before .before .before .before .dues-of in
+    all-found (s .args .t) (x .result) (d .result) _ (x .ensures) (d .ensures (s .args .t) (s .pre) (x .ensures)) (c .before .before .before .with-chain .ensures)
 
 pub findings-on-spec : {M : Type 1} → statement M
 findings-on-spec =
-    tie.close (tie.spec measures-requires dues-of-requires verdict-by-requires returns)
+    tie.close
+    (tie.spec measures-requires dues-of-requires judged-requires with-chain-requires returns)
