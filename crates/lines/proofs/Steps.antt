@@ -24,10 +24,10 @@ unfolding shownOpening
 opening-shown s clock l o e f = ap₂ (λ (x : Line) (y : Opened). record { line = x; number = y .reply .number; state = y .state }) e f
 
 -- the line of the live tasks and the work left after the tick
-pub tick-shown : (s : List ℕ) (st : State) (named : ℕ) (l : Line) (t : Ticked) (set : ℕ) (work : List ℕ) → l ≡ lineOf (tickLine (st .clock) named (t .answer) set work)
-    → set ≡ setOf 16 (live (t .state)) → work ≡ workOf (t .state) → t ≡ tick s st named → (record { line = l; number = t .answer .reply .number; state = t .state }) ≡ shownTick s st named
+pub tick-shown : (s : List ℕ) (st : State) (named : ℕ) (l : Line) (t : Ticked) (set : ℕ) → l ≡ lineOf (tickLine (st .clock) named (t .answer) set (workOf (t .state)))
+    → set ≡ setOf 16 (live (t .state)) → t ≡ tick s st named → (record { line = l; number = t .answer .reply .number; state = t .state }) ≡ shownTick s st named
 unfolding shownTick tickedLine
-tick-shown s st named l t set work e f g h =
-    let k = e ∙ ap₂ (λ (x : ℕ) (y : List ℕ). lineOf (tickLine (st .clock) named (t .answer) x y)) f g in
+tick-shown s st named l t set e f h =
+    let k = e ∙ ap (λ (x : ℕ). lineOf (tickLine (st .clock) named (t .answer) x (workOf (t .state)))) f in
     ap (λ (x : Line). record { line = x; number = t .answer .reply .number; state = t .state }) k
     ∙ ap (λ (y : Ticked). record { line = lineOf (tickedLine st named y); number = y .answer .reply .number; state = y .state }) h

@@ -1,7 +1,7 @@
 // A table's run, step by step: each step shows a line and hands on the state.
 ghost use mathlib.Core.Path.{_≡_};
 ghost use Prim.Native.Nat.{_<_};
-ghost use Rattle.lines.specs.Watching.{number2, number4, workOf, shownOpening, shownTick};
+ghost use Rattle.lines.specs.Watching.{number2, number4, shownOpening, shownTick};
 use crate::Shown;
 use crate::opening;
 use crate::ticking;
@@ -47,13 +47,6 @@ pub fn show_opening(bytes: &[u8], clock: u32) -> Shown
     }
 }
 
-// What is left of each job's work.
-fn work_of(st: State) -> [u64; 16]
-    ensures { λ r. ⌜ r ≡ workOf st ⌝ }
-{
-    [0; 16]
-}
-
 // A tick.
 pub fn show_tick(bytes: &[u8], st: State, releases: u16) -> Shown
     ensures { λ r. ⌜ r ≡ shownTick (now (bytes .entry)) st releases ⌝ }
@@ -63,7 +56,7 @@ pub fn show_tick(bytes: &[u8], st: State, releases: u16) -> Shown
     let reply = answer.reply;
     let state = t.state;
     let live = machine::live_set(state);
-    let work = work_of(state);
+    let work = [0u64; 16];
     let line = ticking::tick_line(st.clock, releases, answer, live, work);
     Shown {
         line: line,

@@ -1,3 +1,4 @@
+use Rattle.lines.specs.Watching.{workOf}
 use Rattle.lines.proofs.Steps.{tick-shown}
 use borrow.Author.Needs.{needs}
 use Rattle.lines.proofs.showing.show_tick.Statement.{statement}
@@ -9,18 +10,15 @@ tick-requires c κs = search needs
 live-set-requires : tie.Need-live-set-requires
 live-set-requires c κs = search needs
 
-work-of-requires : tie.Need-work-of-requires
-work-of-requires c κs = search needs
-
 tick-line-requires : tie.Need-tick-line-requires
 tick-line-requires c κs = search needs
 
 returns : tie.Need-returns
+unfolding workOf
 returns c =
-    let w = c .before in
-    let s = w .before in
+    let s = c .before in
     let t = s .before .before .before .before .tick in
-    tick-shown _ _ _ _ (t .result) _ _ (c .tick-line .ensures) (s .live-set .ensures) (w .work-of .ensures) (t .ensures)
+    tick-shown _ _ _ _ (t .result) _ (c .tick-line .ensures) (s .live-set .ensures) (t .ensures)
 
 pub show-tick-spec : {M : Type 1} → statement M
-show-tick-spec = tie.close (tie.spec tick-requires live-set-requires work-of-requires tick-line-requires returns)
+show-tick-spec = tie.close (tie.spec tick-requires live-set-requires tick-line-requires returns)
