@@ -12,7 +12,7 @@ use Rattle.machine.specs.States.{live, opening}
 use Rattle.machine.specs.Ticking.{tick}
 use Rattle.lines.specs.declared.Line.{Line}
 use Rattle.lines.specs.Lines.{openLine, tickLine, lineOf}
-use Rattle.lines.specs.Watching.{number2, number4, workOf, tickedLine, shownOpening, shownTick}
+use Rattle.lines.specs.Watching.{number2, number4, tickedLine, shownOpening, shownTick}
 
 pub four-bytes : (b : List ℕ) → getD b 0 0 + 256 * getD b 1 0 + 65536 * (getD b 2 0 + 256 * getD b 3 0) ≡ number4 b
 unfolding number4 number2
@@ -24,10 +24,10 @@ unfolding shownOpening
 opening-shown s clock l o e f = ap₂ (λ (x : Line) (y : Opened). record { line = x; number = y .reply .number; state = y .state }) e f
 
 -- the line of the live tasks and the work left after the tick
-pub tick-shown : (s : List ℕ) (st : State) (named : ℕ) (l : Line) (t : Ticked) (set : ℕ) → l ≡ lineOf (tickLine (st .clock) named (t .answer) set (workOf (t .state)))
+pub tick-shown : (s : List ℕ) (st : State) (named : ℕ) (l : Line) (t : Ticked) (set : ℕ) → l ≡ lineOf (tickLine (st .clock) named (t .answer) set (t .state .work))
     → set ≡ setOf 16 (live (t .state)) → t ≡ tick s st named → (record { line = l; number = t .answer .reply .number; state = t .state }) ≡ shownTick s st named
 unfolding shownTick tickedLine
 tick-shown s st named l t set e f h =
-    let k = e ∙ ap (λ (x : ℕ). lineOf (tickLine (st .clock) named (t .answer) x (workOf (t .state)))) f in
+    let k = e ∙ ap (λ (x : ℕ). lineOf (tickLine (st .clock) named (t .answer) x (t .state .work))) f in
     ap (λ (x : Line). record { line = x; number = t .answer .reply .number; state = t .state }) k
     ∙ ap (λ (y : Ticked). record { line = lineOf (tickedLine st named y); number = y .answer .reply .number; state = y .state }) h

@@ -3,7 +3,7 @@
 use mathlib.Core.List.{List, [], _∷_, _++_}
 use Prim.Native.Nat.{ℕ, _+_, _*_}
 use lib.Dec.{eqb}
-use lib.ListN.{getD, take, drop, replicate}
+use lib.ListN.{getD, take, drop}
 use Rattle.graph.specs.Words.{pick, setOf}
 use Rattle.machine.specs.declared.State.{State}
 use Rattle.machine.specs.declared.Ticked.{Ticked}
@@ -25,13 +25,9 @@ releaseSets [] = []
 releaseSets (low ∷ []) = []
 releaseSets (low ∷ high ∷ s) = (low + 256 * high) ∷ releaseSets s
 
--- what is left of each job's work
-unfoldable pub workOf : State → List ℕ
-workOf st = replicate 16 0
-
 -- a tick's line, by the state before it and what it gave
 unfoldable pub tickedLine : State → ℕ → Ticked → List ℕ
-tickedLine st named t = tickLine (st .clock) named (t .answer) (setOf 16 (live (t .state))) (workOf (t .state))
+tickedLine st named t = tickLine (st .clock) named (t .answer) (setOf 16 (live (t .state))) (t .state .work)
 
 -- a line for each tick, from a state on
 unfoldable pub ticksText : List ℕ → State → List ℕ → List ℕ

@@ -56,7 +56,7 @@ pub fn show_tick(bytes: &[u8], st: State, releases: u16) -> Shown
     let reply = answer.reply;
     let state = t.state;
     let live = machine::live_set(state);
-    let work = [0u64; 16];
+    let work = state.work;
     let line = ticking::tick_line(st.clock, releases, answer, live, work);
     Shown {
         line: line,

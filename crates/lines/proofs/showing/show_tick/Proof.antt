@@ -1,4 +1,3 @@
-use Rattle.lines.specs.Watching.{workOf}
 use Rattle.lines.proofs.Steps.{tick-shown}
 use borrow.Author.Needs.{needs}
 use Rattle.lines.proofs.showing.show_tick.Statement.{statement}
@@ -14,9 +13,8 @@ tick-line-requires : tie.Need-tick-line-requires
 tick-line-requires c κs = search needs
 
 returns : tie.Need-returns
-unfolding workOf
 returns c =
-    let s = c .before in
+    let s = c .before .before in
     let t = s .before .before .before .before .tick in
     tick-shown _ _ _ _ (t .result) _ (c .tick-line .ensures) (s .live-set .ensures) (t .ensures)
 
