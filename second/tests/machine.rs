@@ -35,7 +35,8 @@ fn fits_plainly(table: &Table, state: &State) -> bool {
             unreachable!()
         };
         let idle = state.tasks.iter().all(|job| *job == Job::Idle { wait: 0 });
-        return usize::from(task) < n && idle && state.remaining.iter().all(|r| *r == 0);
+        let nothing = state.remaining.iter().all(|r| *r == 0);
+        return usize::from(task) < n && idle && nothing && state.work == [0; ENTRIES];
     };
     for i in 0..ENTRIES {
         let task = &table.tasks[i];
@@ -63,7 +64,8 @@ fn fits_plainly(table: &Table, state: &State) -> bool {
                     && unused
             }
         };
-        if !good {
+        let stored = i128::from(state.work[i]);
+        if !good || stored != (0..ENTRIES).map(|h| i128::from(rest(h))).sum() {
             return false;
         }
     }
@@ -190,6 +192,7 @@ fn conservation_on_random_runs() {
                     .iter()
                     .map(|x| u64::from(*x))
                     .sum();
+                assert_eq!(ticked.state.work[i], rest);
                 if finished {
                     assert_eq!(*count, vol(i));
                     assert!(matches!(ticked.state.tasks[i], Job::Idle { .. }));

@@ -200,6 +200,7 @@ fn the_state_rule() {
             wait: 4,
         };
         state.remaining[..5].copy_from_slice(&rest);
+        state.work[0] = rest.iter().map(|ticks| u64::from(*ticks)).sum();
         fits(&table, &state)
     };
     assert!(with([0, 1, 3, 0, 2]) && with([0, 0, 1, 0, 2]) && with([0, 1, 0, 0, 2]));
