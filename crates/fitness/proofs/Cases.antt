@@ -25,6 +25,13 @@ sum-next n f = ap (λ (k : ℕ). sum k f) (add-one n)
 pub sum-done : (i n x : ℕ) (f : ℕ → ℕ) → i ≡ n → x ≡ sum i f → x ≡ sum n f
 sum-done i n x f e h = h ∙ ap (λ (k : ℕ). sum k f) e
 
+-- it is 0 exactly if each number is
+pub sum-zero : (n : ℕ) (f : ℕ → ℕ) → eqb (sum n f) 0 ≡ all n (λ u. eqb (f u) 0)
+sum-zero n f = elim (ℕ-discrete (sum n f) 0) [
+  | yes e ↦ eq-eqb (sum n f) 0 e ∙ sym (all-of n _ (λ u b. eq-eqb (f u) 0 (omega (arith, sum-at n f u b))))
+  | no d ↦ ne-eqb (sum n f) 0 d ∙ sym (off-when _ (λ h. d (sum-none n f (λ u b. eqb-true (f u) 0 (all-at n _ h u b)))))
+]
+
 -- ---- what remains of a task
 module _ (rest : List ℕ) (i : ℕ) where
   pub none-past : 16 ≤ i → true ≡ nothingLeft rest i
@@ -47,15 +54,9 @@ module _ (rest : List ℕ) (i : ℕ) where
   -- none is left exactly if nothing remains
   pub no-work : eqb (workLeft rest i) 0 ≡ nothingLeft rest i
   no-work = elim (decLt i 16) [
-    | yes b ↦ ap (λ (w : ℕ). eqb w 0) (sym (work-sum b)) ∙ by-sum (at rest i) ∙ none-left b
+    | yes b ↦ ap (λ (w : ℕ). eqb w 0) (sym (work-sum b)) ∙ sum-zero 16 (at rest i) ∙ none-left b
     | no b ↦ let h : 16 ≤ i = omega arith in ap (λ (w : ℕ). eqb w 0) (sym (work-past h)) ∙ none-past h
   ]
-    where
-      by-sum : (f : ℕ → ℕ) → eqb (sum 16 f) 0 ≡ all 16 (λ u. eqb (f u) 0)
-      by-sum f = elim (ℕ-discrete (sum 16 f) 0) [
-        | yes e ↦ eq-eqb (sum 16 f) 0 e ∙ sym (all-of 16 _ (λ u b. eq-eqb (f u) 0 (omega (arith, sum-at 16 f u b))))
-        | no d ↦ ne-eqb (sum 16 f) 0 d ∙ sym (off-when _ (λ h. d (sum-none 16 f (λ u b. eqb-true (f u) 0 (all-at 16 _ h u b)))))
-      ]
 
 -- ---- a task of zeros
 module _ (live : Bool) (wait work : ℕ) (rest : List ℕ) (i : ℕ) where

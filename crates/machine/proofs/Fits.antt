@@ -21,9 +21,9 @@ use Rattle.machine.specs.declared.Phase.the-variants.{Running, Stopped}
 use Rattle.machine.specs.declared.Activity.{Activity}
 use Rattle.machine.specs.declared.Activity.the-variants.{Idle, Live}
 use Rattle.machine.specs.declared.State.{State}
-use Rattle.machine.specs.States.{isLive, waitOf, deadlineOf, live, wait, remaining, ticksLeft, left}
+use Rattle.machine.specs.States.{isLive, waitOf, deadlineOf, live, wait, remaining, workOf, ticksLeft, left}
 use Rattle.machine.specs.Steps.{clear, nothingLeft}
-use Rattle.machine.specs.Fitting.{zeroTaskIn, withinCost, wholeBehind, fitsLive, fitsIdle, fitsTask, fitsPhase, fits}
+use Rattle.machine.specs.Fitting.{workAgrees, zeroTaskIn, withinCost, wholeBehind, fitsLive, fitsIdle, fitsTask, fitsPhase, fits}
 
 leb-zero : (r : ℕ) → leb r 0 ≡ eqb r 0
 leb-zero r = elim (ℕ-discrete r 0) [
@@ -46,24 +46,24 @@ wait-same w l d t h = elim (ℕ-discrete w (t - d + l)) [
 ]
 
 -- ---- a task's entry, taken apart
-module _ (x : Activity) (rest : List ℕ) (i : ℕ) where
-  pub zero-live : (d w : ℕ) → x ≡ Live d w → fitness.zeroTask true w rest i ≡ fitness.zeroTask (isLive x) (waitOf x) rest i
+module _ (x : Activity) (work : ℕ) (rest : List ℕ) (i : ℕ) where
+  pub zero-live : (d w : ℕ) → x ≡ Live d w → fitness.zeroTask true w work rest i ≡ fitness.zeroTask (isLive x) (waitOf x) work rest i
   unfolding isLive waitOf
   zero-live d w e = rw e refl
 
-  pub zero-idle : (w : ℕ) → x ≡ Idle w → fitness.zeroTask false w rest i ≡ fitness.zeroTask (isLive x) (waitOf x) rest i
+  pub zero-idle : (w : ℕ) → x ≡ Idle w → fitness.zeroTask false w work rest i ≡ fitness.zeroTask (isLive x) (waitOf x) work rest i
   unfolding isLive waitOf
   zero-idle w e = rw e refl
 
   module _ (n : ℕ) (a : Task) (costs : List ℕ) (clock : ℕ) where
     pub fits-live : (d w l : ℕ) → x ≡ Live d w → l ≡ ticksLeft d clock
-        → fitness.taskFits n a costs true l w rest i ≡ fitness.taskFits n a costs (isLive x) (ticksLeft (deadlineOf x) clock) (waitOf x) rest i
+        → fitness.taskFits n a costs true l w work rest i ≡ fitness.taskFits n a costs (isLive x) (ticksLeft (deadlineOf x) clock) (waitOf x) work rest i
     unfolding isLive waitOf deadlineOf
     fits-live d w l e q = rw (e, q) refl
 
     -- its ticks left are not looked at
     pub fits-idle : (w : ℕ) → x ≡ Idle w
-        → fitness.taskFits n a costs false 0 w rest i ≡ fitness.taskFits n a costs (isLive x) (ticksLeft (deadlineOf x) clock) (waitOf x) rest i
+        → fitness.taskFits n a costs false 0 w work rest i ≡ fitness.taskFits n a costs (isLive x) (ticksLeft (deadlineOf x) clock) (waitOf x) work rest i
     unfolding isLive waitOf fitness.taskFits
     fits-idle w e = rw e refl
 
@@ -73,8 +73,13 @@ module _ (st : State) (i : ℕ) (b : i < 16) where
   unfolding nothingLeft remaining
   none-same = sym (cases.none-left (st .remaining) i b)
 
+  -- the stored work
+  agrees-same : eqb (workOf st i) (fitness.workLeft (st .remaining) i) ≡ workAgrees st i
+  unfolding workAgrees remaining
+  agrees-same = ap (λ (w : ℕ). eqb (workOf st i) w) (sym (cases.work-sum (st .remaining) i b))
+
   -- "a task of zeros is idle with wait 0"
-  pub zero-same : fitness.zeroTask (live st i) (wait st i) (st .remaining) i ≡ zeroTaskIn st i
+  pub zero-same : fitness.zeroTask (live st i) (wait st i) (workOf st i) (st .remaining) i ≡ zeroTaskIn st i
   unfolding fitness.zeroTask zeroTaskIn
   zero-same = rw none-same refl
 
@@ -102,11 +107,11 @@ module _ (t : Table) (st : State) (i : ℕ) (b : i < 16) (good : GoodTask t i) w
 
 -- THE RULES AGREE, of each of a good table's sixteen entries
 pub same-rules : (t : Table) (st : State) → GoodTable t → (i : ℕ) → i < 16
-    → fitness.taskFits (t .n) (task t i) (t .costs) (live st i) (left st i) (wait st i) (st .remaining) i ≡ fitsTask t st i
+    → fitness.taskFits (t .n) (task t i) (t .costs) (live st i) (left st i) (wait st i) (workOf st i) (st .remaining) i ≡ fitsTask t st i
 unfolding fitness.taskFits fitsTask fitness.idleFits fitsIdle T
 same-rules t st good i b = elim (decLt i (t .n)) [
-  | yes l ↦ rw (lt-ltb i (t .n) l, live-same t st i b (good .each i l), none-same st i b) refl
-  | no l ↦ rw (le-ltb i (t .n) (omega arith)) (zero-same st i b)
+  | yes l ↦ rw (agrees-same st i b, lt-ltb i (t .n) l, live-same t st i b (good .each i l), none-same st i b) refl
+  | no l ↦ rw (agrees-same st i b, le-ltb i (t .n) (omega arith), zero-same st i b) refl
 ]
 
 -- ---- the phase

@@ -17,8 +17,8 @@ use Rattle.machine.specs.declared.Activity.{Activity}
 use Rattle.machine.specs.declared.Activity.the-variants.{Idle}
 use Rattle.machine.specs.declared.State.{State}
 use Rattle.machine.specs.declared.TaskState.{TaskState}
-use Rattle.machine.specs.States.{idle, activity, isLive, waitOf, deadlineOf, ticksLeft, live, wait, deadline, left, remaining}
-use Rattle.machine.specs.Steps.{clear, available, availableSets, nothingLeft, finishes, finished, ended}
+use Rattle.machine.specs.States.{idle, activity, isLive, waitOf, deadlineOf, ticksLeft, live, wait, deadline, left, remaining, workOf}
+use Rattle.machine.specs.Steps.{clear, available, availableSets, finishes, finished, ended}
 use Rattle.machine.specs.Fitting.{zeroTaskIn, fitsTask}
 use Rattle.machine.proofs.Fits.{zero-same, same-rules}
 use Rattle.machine.proofs.Filling.{row-same}
@@ -28,30 +28,33 @@ abbrev pub tableWith : List Task → Table
 tableWith tasks = record { m = 0; n = 0; tasks = tasks; costs = [] }
 
 abbrev pub stateWith : ℕ → List TaskState → List ℕ → State
-stateWith clock states rest = record { clock = clock; phase = Running; tasks = states; remaining = rest }
+stateWith clock states rest = record { clock = clock; phase = Running; tasks = states; remaining = rest; work = [] }
+
+abbrev pub workWith : List TaskState → List ℕ → State
+workWith states work = record { clock = 0; phase = Running; tasks = states; remaining = []; work = work }
 
 -- what task i's entry says
 abbrev pub doing : List TaskState → ℕ → Activity
 doing states i = getD states i idle .activity
 
 -- ---- which states fit
-abbrev pub zeroAt : List TaskState → List ℕ → ℕ → Bool
-zeroAt states rest i = fitness.zeroTask (isLive (doing states i)) (waitOf (doing states i)) rest i
+abbrev pub zeroAt : List TaskState → List ℕ → List ℕ → ℕ → Bool
+zeroAt states work rest i = fitness.zeroTask (isLive (doing states i)) (waitOf (doing states i)) (getD work i 0) rest i
 
-pub zeros-same : (st : State) (rest : List ℕ) → st .remaining ≡ rest → all 16 (zeroAt (st .tasks) rest) ≡ all 16 (zeroTaskIn st)
-unfolding activity live wait
-zeros-same st rest e = ap (λ (r : List ℕ). all 16 (zeroAt (st .tasks) r)) (sym e) ∙ all-same 16 _ _ (λ i b. zero-same st i b)
+pub zeros-same : (st : State) (rest : List ℕ) → st .remaining ≡ rest → all 16 (zeroAt (st .tasks) (st .work) rest) ≡ all 16 (zeroTaskIn st)
+unfolding activity live wait workOf
+zeros-same st rest e = ap (λ (r : List ℕ). all 16 (zeroAt (st .tasks) (st .work) r)) (sym e) ∙ all-same 16 _ _ (λ i b. zero-same st i b)
 
-abbrev pub fitsAt : ℕ → List Task → List ℕ → ℕ → List TaskState → List ℕ → ℕ → Bool
-fitsAt n tasks costs clock states rest i =
-    fitness.taskFits n (getD tasks i noTask) costs (isLive (doing states i)) (ticksLeft (deadlineOf (doing states i)) clock) (waitOf (doing states i)) rest i
+abbrev pub fitsAt : ℕ → List Task → List ℕ → ℕ → List TaskState → List ℕ → List ℕ → ℕ → Bool
+fitsAt n tasks costs clock states work rest i =
+    fitness.taskFits n (getD tasks i noTask) costs (isLive (doing states i)) (ticksLeft (deadlineOf (doing states i)) clock) (waitOf (doing states i)) (getD work i 0) rest i
 
 module _ (t : Table) (st : State) (good : GoodTable t) (costs rest : List ℕ) (e : t .costs ≡ costs) (q : st .remaining ≡ rest) where
-  pub fits-same : all 16 (fitsAt (t .n) (t .tasks) costs (st .clock) (st .tasks) rest) ≡ all 16 (fitsTask t st)
-  unfolding task activity live left deadline wait
+  pub fits-same : all 16 (fitsAt (t .n) (t .tasks) costs (st .clock) (st .tasks) (st .work) rest) ≡ all 16 (fitsTask t st)
+  unfolding task activity live left deadline wait workOf
   fits-same =
-      ap (λ (c : List ℕ). all 16 (fitsAt (t .n) (t .tasks) c (st .clock) (st .tasks) rest)) (sym e)
-      ∙ ap (λ (r : List ℕ). all 16 (fitsAt (t .n) (t .tasks) (t .costs) (st .clock) (st .tasks) r)) (sym q)
+      ap (λ (c : List ℕ). all 16 (fitsAt (t .n) (t .tasks) c (st .clock) (st .tasks) (st .work) rest)) (sym e)
+      ∙ ap (λ (r : List ℕ). all 16 (fitsAt (t .n) (t .tasks) (t .costs) (st .clock) (st .tasks) (st .work) r)) (sym q)
       ∙ all-same 16 _ _ (λ i b. same-rules t st good i b)
 
 -- ---- which vertices are available, which jobs end
@@ -65,9 +68,9 @@ abbrev pub restAt : ℕ → List TaskState → ℕ → TaskState
 restAt done states i = pick (bit done i) (record { activity = Idle (waitOf (doing states i)) }) (getD states i idle)
 
 module _ (st : State) where
-  pub finished-same : (rest : List ℕ) → st .remaining ≡ rest → finished (stateWith 0 (st .tasks) rest) ≡ finished st
-  unfolding finished finishes live activity nothingLeft remaining
-  finished-same rest q = rw (← q) refl
+  pub finished-same : (work : List ℕ) → st .work ≡ work → finished (workWith (st .tasks) work) ≡ finished st
+  unfolding finished finishes live activity workOf
+  finished-same work q = rw (← q) refl
 
   pub ended-same : (done : ℕ) → done ≡ finished st → row 16 (restAt done (st .tasks)) ≡ ended st .tasks
   unfolding finished ended wait activity

@@ -26,10 +26,11 @@ fn task_fits(
     costs: &[u32; 256],
     clock: u32,
     s: TaskState,
+    work: u64,
     remaining: &[u32; 256],
     i: usize,
 ) -> bool
-    ensures { λ r. ⌜ r ≡ taskFits n a (now (costs .entry)) (isLive (s .activity)) (ticksLeft (deadlineOf (s .activity)) clock) (waitOf (s .activity)) (now (remaining .entry)) i ⌝ }
+    ensures { λ r. ⌜ r ≡ taskFits n a (now (costs .entry)) (isLive (s .activity)) (ticksLeft (deadlineOf (s .activity)) clock) (waitOf (s .activity)) work (now (remaining .entry)) i ⌝ }
 {
     let doing = s.activity;
     match doing {
@@ -40,10 +41,11 @@ fn task_fits(
             true,
             ticks_left(deadline, clock),
             wait,
+            work,
             remaining,
             i,
         ),
-        Activity::Idle { wait } => fitness::fits_task(n, a, costs, false, 0, wait, remaining, i),
+        Activity::Idle { wait } => fitness::fits_task(n, a, costs, false, 0, wait, work, remaining, i),
     }
 }
 
@@ -58,10 +60,11 @@ fn tasks_fit(t: Table, st: State) -> bool
     let costs = t.costs;
     let states = st.tasks;
     let left = st.remaining;
+    let work = st.work;
     for i in 0..16usize {
         let a = tasks[i];
         let s = states[i];
-        if !task_fits(n, a, &costs, clock, s, &left, i) {
+        if !task_fits(n, a, &costs, clock, s, work[i], &left, i) {
             return false;
         }
     }
@@ -69,13 +72,13 @@ fn tasks_fit(t: Table, st: State) -> bool
 }
 
 // A task of zeros, by its entry.
-fn zero_in(s: TaskState, remaining: &[u32; 256], i: usize) -> bool
-    ensures { λ r. ⌜ r ≡ zeroTask (isLive (s .activity)) (waitOf (s .activity)) (now (remaining .entry)) i ⌝ }
+fn zero_in(s: TaskState, work: u64, remaining: &[u32; 256], i: usize) -> bool
+    ensures { λ r. ⌜ r ≡ zeroTask (isLive (s .activity)) (waitOf (s .activity)) work (now (remaining .entry)) i ⌝ }
 {
     let doing = s.activity;
     match doing {
-        Activity::Live { deadline, wait } => fitness::zero_task(true, wait, remaining, i),
-        Activity::Idle { wait } => fitness::zero_task(false, wait, remaining, i),
+        Activity::Live { deadline, wait } => fitness::zero_task(true, wait, work, remaining, i),
+        Activity::Idle { wait } => fitness::zero_task(false, wait, work, remaining, i),
     }
 }
 
@@ -85,9 +88,10 @@ fn all_zero(st: State) -> bool
 {
     let states = st.tasks;
     let left = st.remaining;
+    let work = st.work;
     for i in 0..16usize {
         let s = states[i];
-        if !zero_in(s, &left, i) {
+        if !zero_in(s, work[i], &left, i) {
             return false;
         }
     }

@@ -13,10 +13,10 @@ use Rattle.machine.proofs.fitting.all_zero.Statement.{statement}
 use Rattle.machine.proofs.fitting.all_zero.Tie as tie
 
 abbrev Inv-loop : tie.InvT-loop
-Inv-loop states left i₀ i = (i ≤ 16) × (all i (zeroAt states left) ≡ true)
+Inv-loop states left work i₀ i = (i ≤ 16) × (all i (zeroAt states work left) ≡ true)
 
 abbrev μ-loop : tie.MeasureT-loop
-μ-loop states left i₀ i = 16 - i
+μ-loop states left work i₀ i = 16 - i
 
 loop-holds : tie.Need-loop-holds Inv-loop μ-loop
 unfolding all
@@ -28,6 +28,12 @@ mul-s c = search needs
 array-copy-out-s : tie.Need-array-copy-out-s Inv-loop μ-loop
 array-copy-out-s c = search needs
 
+mul-zero-in : tie.Need-mul-zero-in Inv-loop μ-loop
+mul-zero-in c = search needs
+
+array-read-zero-in : tie.Need-array-read-zero-in Inv-loop μ-loop
+array-read-zero-in c = search needs
+
 zero-in-requires : tie.Need-zero-in-requires Inv-loop μ-loop
 zero-in-requires c κs = search needs
 
@@ -35,7 +41,7 @@ returns : tie.Need-returns Inv-loop μ-loop
 unfolding idle
 returns c =
     let l = c .before .before .before .before .before .loop in
-    let s = c .before .before .before .before .before .before .before .before in
+    let s = c .before .before .before .before .before .before .before .before .before in
     all-off 16 _ (l .i) (omega arith) (sym (c .before .zero-in .ensures) ∙ not-true _ (c .if1 .taken)) ∙ zeros-same (s .args .st) _ refl
 
 add-i : tie.Need-add-i Inv-loop μ-loop
@@ -52,7 +58,7 @@ loop-again c =
 
 returns-2 : tie.Need-returns-2 Inv-loop μ-loop
 returns-2 c =
-    let s = c .before .before .before .before in
+    let s = c .before .before .before .before .before in
     all-done 16 _ (c .before .loop .i) (omega arith) (c .before .loop .inv .1) ∙ zeros-same (s .args .st) _ refl
 
 pub all-zero-spec : {M : Type 1} → statement M
@@ -64,6 +70,8 @@ all-zero-spec =
     loop-holds
     mul-s
     array-copy-out-s
+    mul-zero-in
+    array-read-zero-in
     zero-in-requires
     returns
     add-i

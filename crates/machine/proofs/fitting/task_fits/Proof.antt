@@ -21,10 +21,10 @@ fits-task-requires-2 : tie.Need-fits-task-requires-2
 fits-task-requires-2 c κs = search needs
 
 returns : tie.Need-returns
-returns c = c .fits-task .ensures ∙ fits-live _ _ _ _ _ _ _ _ _ _ (c .before .before .before .doing .given .1) (c .before .ticks-left .ensures)
+returns c = c .fits-task .ensures ∙ fits-live _ _ _ _ _ _ _ _ _ _ _ (c .before .before .before .doing .given .1) (c .before .ticks-left .ensures)
 
 returns-2 : tie.Need-returns-2
-returns-2 c = c .fits-task2 .ensures ∙ fits-idle _ _ _ _ _ _ _ _ (c .before .before .doing2 .given .1)
+returns-2 c = c .fits-task2 .ensures ∙ fits-idle _ _ _ _ _ _ _ _ _ (c .before .before .doing2 .given .1)
 
 pub task-fits-spec : {M : Type 1} → statement M
 task-fits-spec =

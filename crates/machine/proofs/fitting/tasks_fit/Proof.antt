@@ -14,10 +14,10 @@ use Rattle.machine.proofs.fitting.tasks_fit.Statement.{statement}
 use Rattle.machine.proofs.fitting.tasks_fit.Tie as tie
 
 abbrev Inv-loop : tie.InvT-loop
-Inv-loop n clock tasks costs states left i₀ i = (i ≤ 16) × (all i (fitsAt n tasks costs clock states left) ≡ true)
+Inv-loop n clock tasks costs states left work i₀ i = (i ≤ 16) × (all i (fitsAt n tasks costs clock states work left) ≡ true)
 
 abbrev μ-loop : tie.MeasureT-loop
-μ-loop n clock tasks costs states left i₀ i = 16 - i
+μ-loop n clock tasks costs states left work i₀ i = 16 - i
 
 cast-n : tie.Need-cast-n Inv-loop μ-loop
 cast-n c = search needs
@@ -38,6 +38,12 @@ mul-s c = search needs
 array-copy-out-s : tie.Need-array-copy-out-s Inv-loop μ-loop
 array-copy-out-s c = search needs
 
+mul-task-fits : tie.Need-mul-task-fits Inv-loop μ-loop
+mul-task-fits c = search needs
+
+array-read-task-fits : tie.Need-array-read-task-fits Inv-loop μ-loop
+array-read-task-fits c = search needs
+
 task-fits-requires : tie.Need-task-fits-requires Inv-loop μ-loop
 task-fits-requires c κs = search needs
 
@@ -45,7 +51,7 @@ returns : tie.Need-returns Inv-loop μ-loop
 unfolding noTask idle
 returns c =
     let l = c .before .before .before .before .before .before .before .loop in
-    let s = c .before .before .before .before .before .before .before .before .before .before .before .before .before in
+    let s = c .before .before .before .before .before .before .before .before .before .before .before .before .before .before in
     all-off 16 _ (l .i) (omega arith) (sym (c .before .task-fits .ensures) ∙ not-true _ (c .if1 .taken))
     ∙ fits-same (s .args .t) (s .args .st) (s .pre) _ _ refl refl
 
@@ -63,7 +69,7 @@ loop-again c =
 
 returns-2 : tie.Need-returns-2 Inv-loop μ-loop
 returns-2 c =
-    let s = c .before .before .before .before .before .before .before in
+    let s = c .before .before .before .before .before .before .before .before in
     all-done 16 _ (c .before .loop .i) (omega arith) (c .before .loop .inv .1)
     ∙ fits-same (s .args .t) (s .args .st) (s .pre) _ _ refl refl
 
@@ -79,6 +85,8 @@ tasks-fit-spec =
     array-copy-out-a
     mul-s
     array-copy-out-s
+    mul-task-fits
+    array-read-task-fits
     task-fits-requires
     returns
     add-i

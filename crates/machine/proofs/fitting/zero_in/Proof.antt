@@ -18,10 +18,10 @@ zero-task-requires-2 : tie.Need-zero-task-requires-2
 zero-task-requires-2 c κs = search needs
 
 returns : tie.Need-returns
-returns c = c .zero-task .ensures ∙ zero-live _ _ _ _ _ (c .before .before .doing .given .1)
+returns c = c .zero-task .ensures ∙ zero-live _ _ _ _ _ _ (c .before .before .doing .given .1)
 
 returns-2 : tie.Need-returns-2
-returns-2 c = c .zero-task2 .ensures ∙ zero-idle _ _ _ _ (c .before .before .doing2 .given .1)
+returns-2 c = c .zero-task2 .ensures ∙ zero-idle _ _ _ _ _ (c .before .before .doing2 .given .1)
 
 pub zero-in-spec : {M : Type 1} → statement M
 zero-in-spec =
