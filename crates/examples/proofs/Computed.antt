@@ -1,6 +1,6 @@
 -- P1 to P12 and the report of A, computed.
 use Rattle.graph.specs.Words.{bit, sum, all, rowFrom, row, largest, alsoIf, those, thoseBelow, lowest, isIn, anyOf, isNone, setOf, joinFrom, inOrder, firstOr, lowestOr}
-use Rattle.graph.specs.Graph.{edge, ledTo, sweep, sweeps, acyclicAmong, acyclic, oneMore, longestFrom, maximum, longest}
+use Rattle.graph.specs.Graph.{edge, ledTo, sweep, sweeps, acyclicAmong, acyclic, doneWithin, done, oneMore, longestFrom, maximum, longest}
 use Rattle.table.specs.Memory.{noSucc, noCosts, zeroTask, noTasks, noRow, noTable, noTask, task, vertices, D, succ, edgeIn, cost}
 use Rattle.table.specs.Memory
 use Rattle.table.specs.Numbers.{number, place}
@@ -16,5 +16,5 @@ use Rattle.machine.specs.Ticking.{nobody, pairOf, runList, ticked, judged, adva
 use Rattle.examples.specs.Examples.{fileA, plainTask, fileOne, fileLow, same, sameZ, flat, eight, sameRun, answered, plays, judges, holds, hold, on, goes, linesA, startA, examples, AllHold}
 
 pub all-hold : AllHold
-unfolding bit sum all rowFrom row largest alsoIf those thoseBelow lowest isIn anyOf isNone setOf joinFrom inOrder firstOr lowestOr edge ledTo sweep sweeps acyclicAmong acyclic oneMore longestFrom maximum longest noSucc noCosts zeroTask noTasks noRow noTable noTask task vertices D Memory.T succ edgeIn cost number place field markAt ranged byteAt value4 ticksAt notUnder periodAt edgeOk edgeAt costsAt addEdge edgesAt badTask partsAt taskAt putCosts badTable withTask tasksAt tableAt refused ending read bytes4 vol len roundedUp due margin naming verdictOn unread verdictRead verdict text newline digitsBefore decimal signed headLine taskLine lastLine badLine reportOn reportRead report idle activity isLive waitOf deadlineOf live wait deadline remaining wrap ticksLeft left zeros unopened openRead opening clear nothingLeft zeroTaskIn withinCost wholeBehind fitsLive fitsIdle fitsTask fitsPhase fits released available availables before insert ranked ownChoice withWait worked finishes ended finished missed nobody pairOf runList ticked judged advanceTo advance refuse whenRunning tickOn tickRead tickBy tick fileA plainTask fileOne fileLow same sameZ flat eight sameRun answered plays judges holds hold on goes linesA startA examples
+unfolding bit sum all rowFrom row largest alsoIf those thoseBelow lowest isIn anyOf isNone setOf joinFrom inOrder firstOr lowestOr edge ledTo sweep sweeps acyclicAmong acyclic doneWithin done oneMore longestFrom maximum longest noSucc noCosts zeroTask noTasks noRow noTable noTask task vertices D Memory.T succ edgeIn cost number place field markAt ranged byteAt value4 ticksAt notUnder periodAt edgeOk edgeAt costsAt addEdge edgesAt badTask partsAt taskAt putCosts badTable withTask tasksAt tableAt refused ending read bytes4 vol len roundedUp due margin naming verdictOn unread verdictRead verdict text newline digitsBefore decimal signed headLine taskLine lastLine badLine reportOn reportRead report idle activity isLive waitOf deadlineOf live wait deadline remaining wrap ticksLeft left zeros unopened openRead opening clear nothingLeft zeroTaskIn withinCost wholeBehind fitsLive fitsIdle fitsTask fitsPhase fits released available availables before insert ranked ownChoice withWait worked finishes ended finished missed nobody pairOf runList ticked judged advanceTo advance refuse whenRunning tickOn tickRead tickBy tick fileA plainTask fileOne fileLow same sameZ flat eight sameRun answered plays judges holds hold on goes linesA startA examples
 all-hold = tt

@@ -1,6 +1,7 @@
 -- The examples.
 pub mod Computed
 pub mod Lines
+pub mod Marks
 -- Demand 3 is not empty.
 pub mod Tests
 pub mod Witness

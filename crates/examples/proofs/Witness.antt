@@ -9,7 +9,7 @@ use lib.Dec.{T, leb, ltb, ltb→lt}
 use lib.IntN.{pos}
 use borrow.Author.Tests.{leb-true}
 use Rattle.graph.specs.Words.{bit, sum, all, rowFrom, row, largest, alsoIf, those, thoseBelow, lowest, isIn, anyOf, isNone, setOf, joinFrom, inOrder, firstOr, lowestOr}
-use Rattle.graph.specs.Graph.{edge, ledTo, sweep, sweeps, acyclicAmong, acyclic, oneMore, longestFrom, maximum, longest}
+use Rattle.graph.specs.Graph.{edge, ledTo, sweep, sweeps, acyclicAmong, acyclic, doneWithin, done, oneMore, longestFrom, maximum, longest}
 use Rattle.table.specs.Memory.{noSucc, noCosts, zeroTask, noTasks, noRow, noTable, noTask, task, vertices, D, succ, edgeIn, cost}
 use Rattle.table.specs.Memory
 use Rattle.table.specs.Numbers.{number, place}
@@ -43,7 +43,7 @@ record Computed : Type 0 where
   otherwise : (isIn 16 (ownAt 6) ≡ true) × (isIn 16 (someChoices 6) ≡ false)
 
 computed : Computed
-unfolding bit sum all rowFrom row largest alsoIf those thoseBelow lowest isIn anyOf isNone setOf joinFrom inOrder firstOr lowestOr edge ledTo sweep sweeps acyclicAmong acyclic oneMore longestFrom maximum longest noSucc noCosts zeroTask noTasks noRow noTable noTask task vertices D Memory.T succ edgeIn cost number place field markAt ranged byteAt value4 ticksAt notUnder periodAt edgeOk edgeAt costsAt addEdge edgesAt badTask partsAt taskAt putCosts badTable withTask tasksAt tableAt refused ending read bytes4 vol len roundedUp due margin naming verdictOn unread verdictRead verdict idle activity isLive waitOf deadlineOf live wait deadline remaining wrap ticksLeft left zeros unopened openRead opening clear nothingLeft zeroTaskIn withinCost wholeBehind fitsLive fitsIdle fitsTask fitsPhase fits released available availables before insert ranked ownChoice withWait worked finishes ended finished missed nobody pairOf runList ticked judged advanceTo advance refuse whenRunning tickOn tickRead tickBy tick fileA flag tableOf tickAt stateAt midAt someClock roundReleases roundChoices someReleases someChoices every distinct legalAmong legalTest walk namesTasks apartAt spacedTest
+unfolding bit sum all rowFrom row largest alsoIf those thoseBelow lowest isIn anyOf isNone setOf joinFrom inOrder firstOr lowestOr edge ledTo sweep sweeps acyclicAmong acyclic doneWithin done oneMore longestFrom maximum longest noSucc noCosts zeroTask noTasks noRow noTable noTask task vertices D Memory.T succ edgeIn cost number place field markAt ranged byteAt value4 ticksAt notUnder periodAt edgeOk edgeAt costsAt addEdge edgesAt badTask partsAt taskAt putCosts badTable withTask tasksAt tableAt refused ending read bytes4 vol len roundedUp due margin naming verdictOn unread verdictRead verdict idle activity isLive waitOf deadlineOf live wait deadline remaining wrap ticksLeft left zeros unopened openRead opening clear nothingLeft zeroTaskIn withinCost wholeBehind fitsLive fitsIdle fitsTask fitsPhase fits released available availables before insert ranked ownChoice withWait worked finishes ended finished missed nobody pairOf runList ticked judged advanceTo advance refuse whenRunning tickOn tickRead tickBy tick fileA flag tableOf tickAt stateAt midAt someClock roundReleases roundChoices someReleases someChoices every distinct legalAmong legalTest walk namesTasks apartAt spacedTest
 computed = record {
   walks = refl;
   spaced = refl;

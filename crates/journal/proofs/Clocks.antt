@@ -9,6 +9,7 @@ use native.Mathlib.Decide.{decLt}
 use lib.ListN.{length, getD}
 use lib.Dec.{ltb, eqb}
 use Rattle.graph.specs.Words.{pick, bit, all, row, thoseBelow, isIn, firstOr, lowestOr}
+use Rattle.graph.specs.Graph.{done}
 use Rattle.graph.proofs.Facts.{clash, both-true, below-pass}
 use Rattle.graph.proofs.Members.{below-same}
 use Rattle.table.specs.declared.Table.{Table}
@@ -84,9 +85,9 @@ module _ (t : Table) (a b : State) (same : Alike a b) where
   unfolding available clear remaining
   same-available k h =
       ap (λ (c : Bool). c && ltb 0 (getD (a .remaining) (16 * (k / 16) + k % 16) 0)
-      && all (vertices t (k / 16)) (λ w. not (edgeIn t (k / 16) w (k % 16)) || eqb (getD (a .remaining) (16 * (k / 16) + w) 0) 0)) (same .lives (k / 16) (omega arith))
+      && all (vertices t (k / 16)) (λ w. not (edgeIn t (k / 16) w (k % 16)) || done (vertices t (k / 16)) (edgeIn t (k / 16)) (λ u. getD (a .remaining) (16 * (k / 16) + u) 0) w)) (same .lives (k / 16) (omega arith))
       ∙ ap (λ (l : List ℕ). live b (k / 16) && ltb 0 (getD l (16 * (k / 16) + k % 16) 0)
-      && all (vertices t (k / 16)) (λ w. not (edgeIn t (k / 16) w (k % 16)) || eqb (getD l (16 * (k / 16) + w) 0) 0)) (same .rest)
+      && all (vertices t (k / 16)) (λ w. not (edgeIn t (k / 16) w (k % 16)) || done (vertices t (k / 16)) (edgeIn t (k / 16)) (λ u. getD l (16 * (k / 16) + u) 0) w)) (same .rest)
 
   same-availables : availables t a ≡ availables t b
   unfolding availables
