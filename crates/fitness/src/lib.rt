@@ -7,19 +7,18 @@ ghost use Rattle.graph.specs.Words.{bit, all, setOf};
 ghost use Rattle.fitness.specs.Fitness.{at, nothingLeft, workLeft, somethingLeft, withinCost, liveFits, zeroTask, taskFits};
 use table::Task;
 
-// Whether nothing remains of task i.
+// Whether nothing remains of task i: its sixteen numbers or-ed together, with no branch in between.
 pub fn nothing_left(remaining: &[u32; 256], i: usize) -> bool
     ensures { λ r. ⌜ r ≡ nothingLeft (now (remaining .entry)) i ⌝ }
 {
     if i >= 16 {
         return true;
     }
+    let mut any: u32 = 0;
     for u in 0..16usize {
-        if remaining[16 * i + u] != 0 {
-            return false;
-        }
+        any |= remaining[16 * i + u];
     }
-    true
+    any == 0
 }
 
 // What remains of a vertex, in 64 bits.

@@ -1,7 +1,6 @@
--- The rules of a state that fits say of a good table's task what the crate fitness says of its numbers; and the phases.
+-- The rules of a state that fits say of a good table's task what the crate fitness says of its numbers.
 use mathlib.Core.Path.{_≡_, refl, sym, ap, _∙_}
 use mathlib.Core.Bool.{Bool, true, false, _&&_, _||_, not}
-use mathlib.Core.List.{List}
 use Prim.Native.Nat.{ℕ, _+_, _-_, _≤_, _<_}
 use native.Mathlib.Omega.{arith}
 use native.Mathlib.Decide.{ℕ-discrete, decLt}
@@ -10,20 +9,15 @@ use lib.Dec.{ltb, leb, eqb}
 use borrow.Author.Tests.{lt-ltb, le-ltb, le-leb, lt-leb, eq-eqb, ne-eqb}
 use Rattle.graph.specs.Words.{pick, all}
 use Rattle.table.specs.declared.Table.{Table}
-use Rattle.table.specs.declared.Task.{Task}
 use Rattle.table.specs.Memory.{task, vertices, D, T, succ, edgeIn, cost}
 use Rattle.table.specs.Good.{GoodTask, GoodTable}
 use Rattle.fitness.specs.Fitness as fitness
 use Rattle.fitness.proofs.Behind.{all-same}
 use Rattle.fitness.proofs.Cases as cases
-use Rattle.machine.specs.declared.Phase.{Phase}
-use Rattle.machine.specs.declared.Phase.the-variants.{Running, Stopped}
-use Rattle.machine.specs.declared.Activity.{Activity}
-use Rattle.machine.specs.declared.Activity.the-variants.{Idle, Live}
 use Rattle.machine.specs.declared.State.{State}
-use Rattle.machine.specs.States.{isLive, waitOf, deadlineOf, live, wait, remaining, workOf, ticksLeft, left}
+use Rattle.machine.specs.States.{live, wait, remaining, workOf, left}
 use Rattle.machine.specs.Steps.{clear, nothingLeft}
-use Rattle.machine.specs.Fitting.{workAgrees, zeroTaskIn, withinCost, wholeBehind, fitsLive, fitsIdle, fitsTask, fitsPhase, fits}
+use Rattle.machine.specs.Fitting.{workAgrees, zeroTaskIn, withinCost, wholeBehind, fitsLive, fitsIdle, fitsTask}
 
 leb-zero : (r : ℕ) → leb r 0 ≡ eqb r 0
 leb-zero r = elim (ℕ-discrete r 0) [
@@ -44,28 +38,6 @@ wait-same w l d t h = elim (ℕ-discrete w (t - d + l)) [
   | yes e ↦ eq-eqb (w + d) (t + l) (omega arith) ∙ sym (eq-eqb w (t - d + l) e)
   | no e ↦ ne-eqb (w + d) (t + l) (λ q. e (omega arith)) ∙ sym (ne-eqb w (t - d + l) e)
 ]
-
--- ---- a task's entry, taken apart
-module _ (x : Activity) (work : ℕ) (rest : List ℕ) (i : ℕ) where
-  pub zero-live : (d w : ℕ) → x ≡ Live d w → fitness.zeroTask true w work rest i ≡ fitness.zeroTask (isLive x) (waitOf x) work rest i
-  unfolding isLive waitOf
-  zero-live d w e = rw e refl
-
-  pub zero-idle : (w : ℕ) → x ≡ Idle w → fitness.zeroTask false w work rest i ≡ fitness.zeroTask (isLive x) (waitOf x) work rest i
-  unfolding isLive waitOf
-  zero-idle w e = rw e refl
-
-  module _ (n : ℕ) (a : Task) (costs : List ℕ) (clock : ℕ) where
-    pub fits-live : (d w l : ℕ) → x ≡ Live d w → l ≡ ticksLeft d clock
-        → fitness.taskFits n a costs true l w work rest i ≡ fitness.taskFits n a costs (isLive x) (ticksLeft (deadlineOf x) clock) (waitOf x) work rest i
-    unfolding isLive waitOf deadlineOf
-    fits-live d w l e q = rw (e, q) refl
-
-    -- its ticks left are not looked at
-    pub fits-idle : (w : ℕ) → x ≡ Idle w
-        → fitness.taskFits n a costs false 0 w work rest i ≡ fitness.taskFits n a costs (isLive x) (ticksLeft (deadlineOf x) clock) (waitOf x) work rest i
-    unfolding isLive waitOf fitness.taskFits
-    fits-idle w e = rw e refl
 
 -- ---- what remains, and a task of zeros
 module _ (st : State) (i : ℕ) (b : i < 16) where
@@ -113,17 +85,3 @@ same-rules t st good i b = elim (decLt i (t .n)) [
   | yes l ↦ rw (agrees-same st i b, lt-ltb i (t .n) l, live-same t st i b (good .each i l), none-same st i b) refl
   | no l ↦ rw (agrees-same st i b, le-ltb i (t .n) (omega arith), zero-same st i b) refl
 ]
-
--- ---- the phase
-module _ (t : Table) (st : State) where
-  pub running-fits : st .phase ≡ Running → all 16 (fitsTask t st) ≡ fits t st
-  unfolding fits fitsPhase
-  running-fits e = sym (ap (λ (p : Phase). fitsPhase p t st) e)
-
-  pub stopped-past : (k : ℕ) → st .phase ≡ Stopped k → t .n ≤ k → false ≡ fits t st
-  unfolding fits fitsPhase
-  stopped-past k e h = sym (ap (λ (p : Phase). fitsPhase p t st) e ∙ ap (λ (b : Bool). b && all 16 (zeroTaskIn st)) (le-ltb k (t .n) h))
-
-  pub stopped-fits : (k : ℕ) → st .phase ≡ Stopped k → k < t .n → all 16 (zeroTaskIn st) ≡ fits t st
-  unfolding fits fitsPhase
-  stopped-fits k e h = sym (ap (λ (p : Phase). fitsPhase p t st) e ∙ ap (λ (b : Bool). b && all 16 (zeroTaskIn st)) (lt-ltb k (t .n) h))

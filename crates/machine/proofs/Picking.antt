@@ -83,6 +83,16 @@ module _ (sets ticks : List ℕ) where
       lowest = λ d j h p s. upto j h (λ l. r .lowest d j l p s) (λ q. let z = r .task d in omega arith);
     }
 
+-- the tasks from n on have nothing to pick
+pub ranks-all : (sets ticks : List ℕ) (n i : ℕ) → n ≤ 16 → ((j : ℕ) → n ≤ j → getD sets j 0 ≡ 0) → RanksFirst n sets ticks i → RanksFirst 16 sets ticks i
+ranks-all sets ticks n i h empty r = record {
+  none = λ e j l. elim (decLt j n) [ yes b ↦ r .none e j b | no b ↦ empty j (omega arith) ];
+  task = λ d. omega (arith, r .task d);
+  some = λ d. r .some d;
+  fewest = λ d j l p. elim (decLt j n) [ yes b ↦ r .fewest d j b p | no b ↦ let z = empty j (omega arith) in absurd (omega arith) ];
+  lowest = λ d j l p s. elim (decLt j n) [ yes b ↦ r .lowest d j b p s | no b ↦ let z = empty j (omega arith) in absurd (omega arith) ];
+}
+
 -- ---- a list in rank order
 module _ (st : State) where
   drop-order : (n : ℕ) (l : List ℕ) → InRankOrder st l → InRankOrder st (drop n l)

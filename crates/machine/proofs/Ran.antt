@@ -1,15 +1,15 @@
 -- One tick less for each vertex of a list, one after the other: what is left to do from here gives what all of it gives from the start.
-use mathlib.Core.Path.{_≡_, refl, sym, ap, _∙_}
+use mathlib.Core.Path.{_≡_, refl, sym, ap, subst, _∙_}
 use mathlib.Core.Bool.{Bool, true, false}
 use mathlib.Core.List.{List, [], _∷_}
-use Prim.Native.Nat.{ℕ, suc, _+_, _-_, _<_}
+use Prim.Native.Nat.{ℕ, zero, suc, _+_, _-_, _<_, min}
 use native.Mathlib.Omega.{arith}
 use native.Mathlib.Numerals.{add-one}
-use native.Mathlib.Decide.{ℕ-discrete}
-use lib.ListN.{length, getD, set, length-set, drop}
-use lib.Seq.{ext-getD, getD-set-same, getD-set-other, drop-cons, drop-length}
-use Rattle.graph.specs.Words.{pick, row, isIn}
-use Rattle.graph.proofs.Facts.{length-row, row-at, first-in, other-in}
+use native.Mathlib.Decide.{ℕ-discrete, decLe}
+use lib.ListN.{length, getD, take, set, length-set, drop}
+use lib.Seq.{ext-getD, getD-set-same, getD-set-other, drop-cons, drop-length, take-all}
+use Rattle.graph.specs.Words.{pick, row, isIn, Distinct}
+use Rattle.graph.proofs.Facts.{clash, length-row, row-at, first-in, other-in, tail-in}
 
 -- what remains of vertex k once each of the list has run: one tick less than before
 unfoldable pub lessIn : List ℕ → List ℕ → List ℕ → ℕ → ℕ
@@ -70,3 +70,37 @@ module _ (l before : List ℕ) (j : ℕ) (now : List ℕ) (r : RanTo l before j 
       (λ k b.
       let h : k < 256 = omega (arith, r .size) in
       sym (less-none before now k) ∙ ap (λ (m : List ℕ). lessIn m before now k) (sym e) ∙ r .same k ∙ sym (row-at 256 (lessIn l before before) k 0 h))
+
+-- ---- a list in which none is twice: what is still to run is as it was
+drop-distinct : (j : ℕ) (l : List ℕ) → Distinct l → Distinct (drop j l)
+unfolding Distinct
+drop-distinct zero l d = d
+drop-distinct (suc j) [] d = d
+drop-distinct (suc j) (x ∷ l) d = drop-distinct j l (d .1)
+
+abbrev pub Untouched : List ℕ → List ℕ → ℕ → List ℕ → Type 0
+Untouched l before j now = (k : ℕ) → isIn k (drop j l) ≡ true → getD now k 0 ≡ getD before k 0
+
+module _ (l before : List ℕ) (once : Distinct l) (j : ℕ) (now : List ℕ) (r : Untouched l before j now) (x : ℕ) (b : j < length l) (e : x ≡ getD l j 0) where
+  parts : drop j l ≡ x ∷ drop (suc j) l
+  parts = drop-cons l j 0 b ∙ ap (λ (z : ℕ). z ∷ drop (suc j) l) (sym e)
+
+  pub next-untouched : getD now x 0 ≡ getD before x 0
+  next-untouched = r x (ap (isIn x) parts ∙ first-in x (drop (suc j) l))
+
+  pub not-again : isIn x (drop (suc j) l) ≡ false
+  unfolding Distinct
+  not-again = subst Distinct parts (drop-distinct j l once) .0
+
+  pub others-untouched : (y : ℕ) → Untouched l before (j + 1) (set now x y)
+  others-untouched y k h =
+      let g : isIn k (drop (suc j) l) ≡ true = sym (ap (λ (n : ℕ). isIn k (drop n l)) (add-one j)) ∙ h in
+      let d : k ≡ x → ⊥ = λ q. clash g (ap (λ (z : ℕ). isIn z (drop (suc j) l)) q ∙ not-again) in
+      getD-set-other now x k y 0 d ∙ r k (ap (isIn k) parts ∙ tail-in k x (drop (suc j) l) g)
+
+-- of eight places as many are used as are counted, and no more than there are
+pub listed-places : (n : ℕ) (l : List ℕ) → length l ≡ 8 → take (min n 8) l ≡ take n l
+listed-places n l e = elim (decLe n 8) [
+  | yes h ↦ let z : min n 8 ≡ n = omega arith in ap (λ (k : ℕ). take k l) z
+  | no h ↦ let z : min n 8 ≡ 8 = omega arith in ap (λ (k : ℕ). take k l) z ∙ take-all 8 l (omega arith) ∙ sym (take-all n l (omega arith))
+]

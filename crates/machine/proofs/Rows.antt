@@ -9,9 +9,6 @@ use Rattle.graph.proofs.Facts.{length-row, row-at}
 use Rattle.table.specs.declared.Table.{Table}
 use Rattle.table.specs.declared.Task.{Task}
 use Rattle.table.specs.Memory.{noTask, task, vertices, edgeIn, succ}
-use Rattle.table.specs.Good.{GoodTable}
-use Rattle.fitness.specs.Fitness as fitness
-use Rattle.fitness.proofs.Behind.{all-same}
 use Rattle.machine.specs.declared.Phase.the-variants.{Running}
 use Rattle.machine.specs.declared.Activity.{Activity}
 use Rattle.machine.specs.declared.Activity.the-variants.{Idle}
@@ -19,8 +16,6 @@ use Rattle.machine.specs.declared.State.{State}
 use Rattle.machine.specs.declared.TaskState.{TaskState}
 use Rattle.machine.specs.States.{idle, activity, isLive, waitOf, deadlineOf, ticksLeft, live, wait, deadline, left, remaining, workOf}
 use Rattle.machine.specs.Steps.{clear, available, availableSets, finishes, finished, ended}
-use Rattle.machine.specs.Fitting.{zeroTaskIn, fitsTask}
-use Rattle.machine.proofs.Fits.{zero-same, same-rules}
 use Rattle.machine.proofs.Filling.{row-same}
 use Rattle.machine.proofs.Searching.{bit-set}
 
@@ -36,26 +31,6 @@ workWith states work = record { clock = 0; phase = Running; tasks = states; rema
 -- what task i's entry says
 abbrev pub doing : List TaskState → ℕ → Activity
 doing states i = getD states i idle .activity
-
--- ---- which states fit
-abbrev pub zeroAt : List TaskState → List ℕ → List ℕ → ℕ → Bool
-zeroAt states work rest i = fitness.zeroTask (isLive (doing states i)) (waitOf (doing states i)) (getD work i 0) rest i
-
-pub zeros-same : (st : State) (rest : List ℕ) → st .remaining ≡ rest → all 16 (zeroAt (st .tasks) (st .work) rest) ≡ all 16 (zeroTaskIn st)
-unfolding activity live wait workOf
-zeros-same st rest e = ap (λ (r : List ℕ). all 16 (zeroAt (st .tasks) (st .work) r)) (sym e) ∙ all-same 16 _ _ (λ i b. zero-same st i b)
-
-abbrev pub fitsAt : ℕ → List Task → List ℕ → ℕ → List TaskState → List ℕ → List ℕ → ℕ → Bool
-fitsAt n tasks costs clock states work rest i =
-    fitness.taskFits n (getD tasks i noTask) costs (isLive (doing states i)) (ticksLeft (deadlineOf (doing states i)) clock) (waitOf (doing states i)) (getD work i 0) rest i
-
-module _ (t : Table) (st : State) (good : GoodTable t) (costs rest : List ℕ) (e : t .costs ≡ costs) (q : st .remaining ≡ rest) where
-  pub fits-same : all 16 (fitsAt (t .n) (t .tasks) costs (st .clock) (st .tasks) (st .work) rest) ≡ all 16 (fitsTask t st)
-  unfolding task activity live left deadline wait workOf
-  fits-same =
-      ap (λ (c : List ℕ). all 16 (fitsAt (t .n) (t .tasks) c (st .clock) (st .tasks) (st .work) rest)) (sym e)
-      ∙ ap (λ (r : List ℕ). all 16 (fitsAt (t .n) (t .tasks) (t .costs) (st .clock) (st .tasks) (st .work) r)) (sym q)
-      ∙ all-same 16 _ _ (λ i b. same-rules t st good i b)
 
 -- ---- which vertices are available, which jobs end
 module _ (t : Table) (st : State) (rest : List ℕ) (q : st .remaining ≡ rest) where

@@ -1,6 +1,6 @@
 -- One off a task's work for each vertex of a list of which something remains, one after the other: what is left to do from here gives what all
 -- of it gives from the start.
-use mathlib.Core.Path.{_≡_, refl, sym, ap, ap₂, _∙_}
+use mathlib.Core.Path.{_≡_, refl, sym, ap, ap₂, subst, _∙_}
 use mathlib.Core.Bool.{Bool, true, false, _&&_}
 use mathlib.Core.List.{List, [], _∷_}
 use Prim.Native.Nat.{ℕ, suc, _+_, _*_, _-_, _/_, _%_, _<_}
@@ -13,10 +13,7 @@ use lib.Dec.{ltb, eqb}
 use borrow.Author.Tests.{lt-ltb, le-ltb, eq-eqb, ne-eqb}
 use Rattle.graph.specs.Words.{flag, row, sum, isIn}
 use Rattle.graph.proofs.Facts.{length-row, row-at, first-in, other-in, sum-same, sum-none, sum-set}
-
--- how many vertices of task i a list has of which something remains
-unfoldable pub runIn : List ℕ → List ℕ → ℕ → ℕ
-runIn l rest i = sum 16 (λ u. flag (isIn (16 * i + u) l && ltb 0 (getD rest (16 * i + u) 0)))
+use Rattle.machine.specs.Choosing.{runIn}
 
 flags : (flag true ≡ 1) × (flag false ≡ 0)
 unfolding flag
@@ -67,6 +64,12 @@ module _ (x : ℕ) (l rest : List ℕ) (i : ℕ) where
         let q : 16 * i + x % 16 ≡ x = omega arith in
         sum-set 16 _ _ 1 (x % 16) (omega arith) (λ u d. elsewhere (16 * i + u) (λ z. d (omega arith))) (rw q here)
 
+put-back : (l : List ℕ) (x : ℕ) → set l x (getD l x 0) ≡ l
+put-back l x = ext-getD 0 (set l x (getD l x 0)) l (length-set l x (getD l x 0)) (λ k b. elim (ℕ-discrete k x) [
+  | yes e ↦ ap (λ (j : ℕ). getD (set l x (getD l x 0)) j 0) e ∙ getD-set-same l x (getD l x 0) 0 (let z = length-set l x (getD l x 0) in omega arith) ∙ ap (λ (j : ℕ). getD l j 0) (sym e)
+  | no d ↦ getD-set-other l x k (getD l x 0) 0 d
+])
+
 -- the first j of the list are through; `left` is what remains of those that are not
 pub record OffTo (l rest before : List ℕ) (j : ℕ) (left work : List ℕ) : Type 0 where
   pub long : length left ≡ 256
@@ -116,6 +119,13 @@ module _ (l rest before : List ℕ) (j : ℕ) (left work : List ℕ) (r : OffTo 
           | no d ↦
               ap₂ (λ (a n : ℕ). a - n) (getD-set-other work (x / 16) i w 0 d) (sym (run-other x (drop (suc j) l) left i y h s once d))
         ]
+
+  -- one that runs, where what remains stays as it is and none is listed twice
+  pub off-run : (x w : ℕ) → left ≡ rest → j < length l → x ≡ getD l j 0 → x < 256 → 0 < getD rest x 0 → isIn x (drop (suc j) l) ≡ false → w ≡ getD work (x / 16) 0 - 1
+      → OffTo l rest before (j + 1) rest (set work (x / 16) w)
+  off-run x w q b e small s once h =
+      subst (λ (z : List ℕ). OffTo l rest before (j + 1) z (set work (x / 16) w)) (put-back left x ∙ q)
+      (off-one x b e (getD left x 0) w small (let z = ap (λ (m : List ℕ). getD m x 0) q in omega arith) (ap (λ (c : Bool). c && ltb 0 (getD left x 0)) once) h)
 
   pub off-all : j ≡ length l → work ≡ row 16 (λ i. getD before i 0 - runIn l rest i)
   off-all q =

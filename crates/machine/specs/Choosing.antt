@@ -1,12 +1,19 @@
--- How the code takes steps 2 and 3, for the contracts of its parts: each task has a set of vertices as sixteen bits.
+-- How the code takes steps 2 and 3, for the contracts of its parts: each task has a set of vertices as sixteen bits. And how it tells
+-- which states fit, by rows.
 use mathlib.Core.Path.{_≡_}
 use mathlib.Core.Bool.{Bool, _&&_, not}
 use mathlib.Core.List.{List}
 use Prim.Native.Nat.{ℕ, _+_, _*_, _/_, _%_, _≤_, _<_, min}
 use lib.ListN.{getD}
-use lib.Dec.{eqb}
-use Rattle.graph.specs.Words.{bit}
+use lib.Dec.{ltb, leb, eqb}
+use Rattle.graph.specs.Words.{flag, pick, bit, sum, all, isIn, lowestOr}
 use Rattle.graph.specs.Graph.{edge, heldBack}
+use Rattle.table.specs.declared.Table.{Table}
+use Rattle.table.specs.Memory.{task}
+use Rattle.fitness.specs.Fitness.{zeroTask, taskFits}
+use Rattle.machine.specs.declared.Phase.{Phase}
+use Rattle.machine.specs.declared.Phase.the-variants.{Running, Stopped}
+use Rattle.machine.specs.declared.Reply.{Reply}
 
 -- step 2, by a task's successors, its v and the row of what remains: it has something remaining, and no direct predecessor that is not
 -- done; a vertex from v on leads nowhere
@@ -24,3 +31,27 @@ pub record RanksFirst (n : ℕ) (sets left : List ℕ) (i : ℕ) : Type 0 where
   pub some : (i ≡ 16 → ⊥) → 0 < getD sets i 0
   pub fewest : (i ≡ 16 → ⊥) → (j : ℕ) → j < n → 0 < getD sets j 0 → getD left i 0 ≤ getD left j 0
   pub lowest : (i ≡ 16 → ⊥) → (j : ℕ) → j < n → 0 < getD sets j 0 → getD left i 0 ≡ getD left j 0 → i ≤ j
+
+-- step 4: how many vertices of task i a list has of which something remains, by the row of what remains
+unfoldable pub runIn : List ℕ → List ℕ → ℕ → ℕ
+runIn l rest i = sum 16 (λ u. flag (isIn (16 * i + u) l && ltb 0 (getD rest (16 * i + u) 0)))
+
+-- which states fit, by the set of live tasks and the rows of ticks left, waits, work and what remains: the clauses are crate fitness'
+unfoldable pub fitsBy : Phase → Table → List ℕ → ℕ → List ℕ → List ℕ → List ℕ → List ℕ → Bool
+fitsBy Running t costs live ticks waits work rest =
+    all 16 (λ i. taskFits (t .n) (task t i) costs (bit live i) (getD ticks i 0) (getD waits i 0) (getD work i 0) rest i)
+fitsBy (Stopped k) t costs live ticks waits work rest = ltb k (t .n) && all 16 (λ i. zeroTask (bit live i) (getD waits i 0) (getD work i 0) rest i)
+
+-- a tick's refusal by the same, in the order of specs/Ticking.antt: number 0 if there is none
+abbrev pub replyOf : ℕ → ℕ → Reply
+replyOf number task = record { number = number; place = 0; task = task }
+
+unfoldable pub refusalIn : Phase → ℕ → ℕ → List ℕ → Reply
+refusalIn Running named n waits =
+    lowestOr 16 (λ i. bit named i && leb n i) (replyOf 31)
+    (lowestOr n (λ i. bit named i && ltb 0 (getD waits i 0)) (replyOf 33)
+    (replyOf 0 255))
+refusalIn (Stopped k) named n waits = replyOf 32 255
+
+unfoldable pub refusalOf : Bool → Phase → ℕ → ℕ → List ℕ → Reply
+refusalOf fits phase named n waits = pick fits (refusalIn phase named n waits) (replyOf 30 255)

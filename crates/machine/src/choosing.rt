@@ -2,11 +2,12 @@
 ghost use mathlib.Core.Path.{_≡_};
 ghost use mathlib.Core.Bool.{_&&_, not, true, false};
 ghost use Prim.Native.Nat.{ℕ, _+_, _≤_, _<_};
-ghost use lib.ListN.{length, take};
+ghost use lib.ListN.{length, getD, take};
 ghost use lib.Dec.{eqb};
 ghost use Rattle.graph.specs.Words.{bit, row, setOf};
-ghost use Rattle.table.specs.Good.{GoodTable};
-ghost use Rattle.machine.specs.States.{isLive, deadlineOf, left};
+ghost use Rattle.table.specs.declared.Table.{Table};
+ghost use Rattle.machine.specs.declared.State.{State};
+ghost use Rattle.machine.specs.States.{activity, isLive, deadlineOf, left};
 ghost use Rattle.machine.specs.Steps.{availableSets, ownChoice};
 ghost use Rattle.machine.specs.Choosing.{isReady, RanksFirst};
 use crate::Activity;
@@ -15,7 +16,7 @@ use crate::State;
 use table::Table;
 
 // A live job's deadline; 0 where there is none.
-fn deadline_of(a: Activity) -> u32
+pub(crate) fn deadline_of(a: Activity) -> u32
     ensures { λ r. ⌜ r ≡ deadlineOf a ⌝ }
 {
     match a {
@@ -31,6 +32,14 @@ fn ready_in(succ: [u16; 16], v: usize, remaining: &[u32; 256], i: usize) -> u16
 {
     let unfinished = fitness::unfinished(remaining, i);
     unfinished & !graph::held_back(succ, v, unfinished)
+}
+
+// The same, with what the array tells of its length.
+fn ready(succ: [u16; 16], v: usize, remaining: &[u32; 256], i: usize) -> u16
+    requires { ⌜ i < 16 ⌝ }
+    ensures { λ r. ⌜ (r ≡ setOf 16 (isReady succ v (now (remaining .entry)) i)) × (length succ ≡ 16) ⌝ }
+{
+    ready_in(succ, v, remaining, i)
 }
 
 // Task i's available vertices: those of a live job; an idle task has none.
@@ -59,6 +68,26 @@ pub fn available_sets(t: Table, st: State) -> [u16; 16]
         let succ = x.succ;
         let v = x.v as usize;
         sets[i] = available_in(a, succ, v, &left, i);
+    }
+    sets
+}
+
+// Step 2 of the tasks in a set: the available vertices of each, with what remains in a row that is lent.
+pub(crate) fn sets_of(t: Table, live: u16, remaining: &[u32; 256]) -> [u16; 16]
+    ensures { λ r. ⌜ ((st : State) → st .remaining ≡ now (remaining .entry) → ((i : ℕ) → i < 16 → bit live i ≡ isLive (activity st i)) → r ≡ availableSets t st) ⌝ }
+{
+    let mut sets = [0u16; 16];
+    if live == 0 {
+        return sets;
+    }
+    let tasks = t.tasks;
+    for i in 0..16usize {
+        if (live >> i) % 2 == 1 {
+            let x = tasks[i];
+            let succ = x.succ;
+            let v = x.v as usize;
+            sets[i] = ready(succ, v, remaining, i);
+        }
     }
     sets
 }
@@ -93,13 +122,14 @@ fn better(sets: &[u16; 16], left: &[u32; 16], best: usize, i: usize) -> usize
     best
 }
 
-// The task whose vertex ranks first, 16 if no set has one.
-fn next_task(sets: [u16; 16], left: [u32; 16]) -> usize
-    ensures { λ r. ⌜ RanksFirst 16 sets left r ⌝ }
+// The task of the first n whose vertex ranks first, 16 if none of their sets has one.
+fn next_task(n: usize, sets: &[u16; 16], left: &[u32; 16]) -> usize
+    requires { ⌜ n ≤ 16 ⌝ }
+    ensures { λ r. ⌜ RanksFirst n (now (sets .entry)) (now (left .entry)) r ⌝ }
 {
     let mut best: usize = 16;
-    for i in 0..16usize {
-        best = better(&sets, &left, best, i);
+    for i in 0..n {
+        best = better(sets, left, best, i);
     }
     best
 }
@@ -120,18 +150,18 @@ fn without(set: u16, u: usize) -> u16
     set & !(1u16 << u)
 }
 
-// Steps 2 and 3: at most m times the vertex that ranks first of those that are left.
-pub(crate) fn choose(t: Table, st: State) -> Chosen
-    requires { ⌜ GoodTable t ⌝ }
-    ensures { λ r. ⌜ (take (r .count) (r .keys) ≡ ownChoice t st) × (r .count ≤ 8) × (r .count ≡ length (ownChoice t st)) ⌝ }
+// Step 3: at most m times the vertex that ranks first of those that are left. The sets are those of the available vertices, the
+// tasks from n on have none.
+pub(crate) fn choose(m: u8, n: usize, given: [u16; 16], ticks: &[u32; 16]) -> Chosen
+    requires { ⌜ (m ≤ 8) × (n ≤ 16) × ((j : ℕ) → n ≤ j → getD given j 0 ≡ 0) ⌝ }
+    ensures { λ r. ⌜ ((t : Table) (st : State) → t .m ≡ m → given ≡ availableSets t st → now (ticks .entry) ≡ row 16 (left st) → take (r .count) (r .keys) ≡ ownChoice t st) × (r .count ≤ 8) ⌝ }
 {
-    let m = t.m as usize;
-    let left = ticks_left(st);
-    let mut sets = available_sets(t, st);
+    let most = m as usize;
+    let mut sets = given;
     let mut keys = [0u8; 8];
     let mut count: usize = 0;
-    while count < m {
-        let i = next_task(sets, left);
+    while count < most {
+        let i = next_task(n, &sets, ticks);
         if i == 16 {
             return Chosen {
                 keys: keys,

@@ -16,7 +16,7 @@ use crate::TaskState;
 use table::Table;
 
 // One less, not below 0.
-fn less(x: u32) -> u32
+pub(crate) fn less(x: u32) -> u32
     ensures { λ r. ⌜ r ≡ x - 1 ⌝ }
 {
     if x == 0 {
@@ -34,7 +34,7 @@ pub(crate) fn wait_of(a: Activity) -> u32
     }
 }
 
-fn is_live(a: Activity) -> bool
+pub(crate) fn is_live(a: Activity) -> bool
     ensures { λ r. ⌜ r ≡ isLive a ⌝ }
 {
     match a {
@@ -162,14 +162,14 @@ fn waits(t: Table, st: State, named: u16) -> [TaskState; 16]
 }
 
 // A vertex's number as an index.
-fn wide(x: u8) -> usize
+pub(crate) fn wide(x: u8) -> usize
     ensures { λ r. ⌜ (r ≡ x) × (r < 256) ⌝ }
 {
     x as usize
 }
 
 // How many of the eight places are used.
-fn places(count: usize) -> usize
+pub(crate) fn places(count: usize) -> usize
     ensures { λ r. ⌜ r ≡ min count 8 ⌝ }
 {
     if count < 8 {
@@ -196,7 +196,7 @@ fn ran(st: State, chosen: Chosen) -> [u32; 256]
 }
 
 // One less, not below 0, in 64 bits.
-fn one_off(x: u64) -> u64
+pub(crate) fn one_off(x: u64) -> u64
     ensures { λ r. ⌜ r ≡ x - 1 ⌝ }
 {
     if x == 0 {
@@ -238,8 +238,18 @@ pub(crate) fn work(t: Table, st: State, named: u16, chosen: Chosen) -> State
     }
 }
 
+// How many of the sixteen entries are used.
+pub(crate) fn entries(n: u8) -> u8
+    ensures { λ r. ⌜ r ≡ min n 16 ⌝ }
+{
+    if n < 16 {
+        return n;
+    }
+    16
+}
+
 // Two to the power i.
-fn power(i: usize) -> u16
+pub(crate) fn power(i: usize) -> u16
     requires { ⌜ i < 16 ⌝ }
     ensures { λ r. ⌜ r ≡ 2 ^ i ⌝ }
 {

@@ -1,12 +1,13 @@
 // The tick: its steps one after the other, and its refusals. The definitions are in specs/Ticking.antt.
 ghost use mathlib.Core.Path.{_≡_};
 ghost use mathlib.Core.Bool.{_&&_};
-ghost use Prim.Native.Nat.{ℕ, _<_, min};
+ghost use Prim.Native.Nat.{ℕ, _≤_, _<_};
 ghost use lib.Dec.{ltb, leb};
 ghost use Rattle.graph.specs.Words.{bit, lowest};
 ghost use Rattle.machine.specs.States.{waitOf, wait};
 ghost use Rattle.table.specs.Good.{GoodTable};
 ghost use Rattle.machine.specs.Steps.{ownChoice, listed, worked};
+ghost use Rattle.machine.specs.Choosing.{replyOf, refusalOf};
 ghost use Rattle.machine.specs.Ticking.{nobody, pairOf, runList, ticked, judged, advanceTo, refuse, tickOn};
 use crate::Answer;
 use crate::Chosen;
@@ -18,6 +19,8 @@ use crate::TaskState;
 use crate::Ticked;
 use crate::choosing;
 use crate::fitting;
+use crate::held;
+use crate::lent;
 use crate::opening;
 use crate::steps;
 use table::Table;
@@ -55,21 +58,35 @@ fn run_list(chosen: Chosen) -> [Pair; 8]
     ran
 }
 
-// An answer 0 or 34.
-fn told(number: u8, task: u8, chosen: Chosen, done: u16, st: State) -> Ticked
-    ensures { λ r. ⌜ r ≡ ticked number task (listed chosen) done st ⌝ }
+// A reply at place 0.
+fn reply(number: u8, task: u8) -> Reply
+    ensures { λ r. ⌜ r ≡ replyOf number task ⌝ }
 {
-    let reply = Reply {
+    Reply {
         number: number,
         place: 0,
         task: task,
-    };
+    }
+}
+
+// An answer 0 or 34.
+fn answer(number: u8, task: u8, chosen: Chosen, done: u16) -> Answer
+    ensures { λ r. ⌜ r ≡ record { reply = replyOf number task; ran = runList (listed chosen); finished = done } ⌝ }
+{
+    let reply = reply(number, task);
+    Answer {
+        reply: reply,
+        ran: run_list(chosen),
+        finished: done,
+    }
+}
+
+// The same with a state.
+fn told(number: u8, task: u8, chosen: Chosen, done: u16, st: State) -> Ticked
+    ensures { λ r. ⌜ r ≡ ticked number task (listed chosen) done st ⌝ }
+{
     Ticked {
-        answer: Answer {
-            reply: reply,
-            ran: run_list(chosen),
-            finished: done,
-        },
+        answer: answer(number, task, chosen, done),
         state: st,
     }
 }
@@ -130,6 +147,9 @@ fn is_beyond(named: u16, n: u8, i: u8) -> bool
 pub fn first_beyond(named: u16, n: u8) -> u8
     ensures { λ r. ⌜ r ≡ lowest 16 16 (λ i. bit named i && leb n i) ⌝ }
 {
+    if named == 0 {
+        return 16;
+    }
     for i in 0..16u8 {
         if is_beyond(named, n, i) {
             return i;
@@ -150,21 +170,11 @@ fn is_early(named: u16, s: TaskState, i: u8) -> bool
     false
 }
 
-// How many of the sixteen entries are used.
-fn entries(n: u8) -> u8
-    ensures { λ r. ⌜ r ≡ min n 16 ⌝ }
-{
-    if n < 16 {
-        return n;
-    }
-    16
-}
-
 // 33: the lowest named task with a wait above 0, 16 if there is none.
 pub fn first_early(named: u16, n: u8, st: State) -> u8
     ensures { λ r. ⌜ r ≡ lowest 16 n (λ i. bit named i && ltb 0 (wait st i)) ⌝ }
 {
-    let used = entries(n);
+    let used = steps::entries(n);
     let states = st.tasks;
     for i in 0..used {
         if is_early(named, states[i as usize], i) {
@@ -174,26 +184,76 @@ pub fn first_early(named: u16, n: u8, st: State) -> u8
     16
 }
 
-// The tick on a table.
+// 30, 32, 31 and 33, in this order; number 0 if there is none.
+fn refusal(fits: bool, phase: Phase, named: u16, n: u8, waits: &[u32; 16]) -> Reply
+    requires { ⌜ n ≤ 16 ⌝ }
+    ensures { λ r. ⌜ r ≡ refusalOf fits phase named n (now (waits .entry)) ⌝ }
+{
+    if !fits {
+        return reply(30, 255);
+    }
+    let Phase::Running = phase else {
+        return reply(32, 255);
+    };
+    let beyond = first_beyond(named, n);
+    if beyond < 16 {
+        return reply(31, beyond);
+    }
+    let early = lent::first_early(named, n, waits);
+    if early < 16 {
+        return reply(33, early);
+    }
+    reply(0, 255)
+}
+
+// The tick on a table. The state is taken apart once; its rows are lent, and changed where they lie.
 pub(crate) fn tick_on(t: Table, st: State, named: u16) -> Ticked
     requires { ⌜ GoodTable t ⌝ }
     ensures { λ r. ⌜ r ≡ tickOn ownChoice t st named ⌝ }
 {
-    if !fitting::fits_state(t, st) {
-        return refuse(st, 30, 0, 255);
+    let clock = st.clock;
+    let phase = st.phase;
+    let states = st.tasks;
+    let costs = t.costs;
+    let mut remaining = st.remaining;
+    let mut work = st.work;
+    let live = held::live_set(states);
+    let mut deadlines = held::deadlines_of(states);
+    let mut waits = held::waits_of(states);
+    let ticks = held::left_of(&deadlines, clock);
+    let fits = fitting::fits_rows(t, phase, &costs, live, &ticks, &waits, &work, &remaining);
+    let no = refusal(fits, phase, named, t.n, &waits);
+    if no.number != 0 {
+        return refuse(st, no.number, 0, no.task);
     }
-    let p = st.phase;
-    let Phase::Running = p else {
-        return refuse(st, 32, 0, 255);
-    };
-    let beyond = first_beyond(named, t.n);
-    if beyond < 16 {
-        return refuse(st, 31, 0, beyond);
+    lent::begin(t, clock, named, &mut deadlines, &mut waits);
+    lent::put_costs(&costs, named, &mut remaining);
+    lent::put_work(&costs, named, &mut work);
+    let begun = live | named;
+    let left = held::left_of(&deadlines, clock);
+    let sets = choosing::sets_of(t, begun, &remaining);
+    let chosen = choosing::choose(t.m, t.n as usize, sets, &left);
+    lent::work_off(chosen, &remaining, &mut work);
+    lent::run(chosen, &mut remaining);
+    let done = lent::done_of(begun, &work);
+    let going = begun & !done;
+    let next = std::num::wrapping_add_u32(clock, 1);
+    let late = lent::first_late(going, &deadlines, next);
+    if late < 16 {
+        let stopped = opening::zeros(next, Phase::Stopped(late));
+        return Ticked {
+            answer: answer(34, late, chosen, done),
+            state: stopped,
+        };
     }
-    let early = first_early(named, t.n, st);
-    if early < 16 {
-        return refuse(st, 33, 0, early);
+    Ticked {
+        answer: answer(0, 255, chosen, done),
+        state: State {
+            clock: next,
+            phase: Phase::Running,
+            tasks: held::together(going, &deadlines, &waits),
+            remaining: remaining,
+            work: work,
+        },
     }
-    let begun = steps::release(t, st, named);
-    advance_from(t, begun, named, choosing::choose(t, begun))
 }

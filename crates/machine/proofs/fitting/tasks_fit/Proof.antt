@@ -1,23 +1,28 @@
 -- The loop's invariant: the tasks that were passed fit.
-use mathlib.Core.Path.{_≡_, refl, sym, _∙_}
-use mathlib.Core.Bool.{true}
-use Prim.Native.Nat.{_-_, _≤_}
-use native.Mathlib.Omega.{arith}
-use borrow.Author.Needs.{needs}
-use borrow.Author.Tests.{not-true, not-false}
-use Rattle.graph.specs.Words.{all}
-use Rattle.table.specs.Memory.{noTask}
-use Rattle.machine.specs.States.{idle}
+use mathlib.Core.Path.{_≡_, refl, sym, ap, ap₂, subst, _∙_}
+use mathlib.Core.Bool.{Bool, true, false, _&&_}
+use mathlib.Core.List.{List}
+use Prim.Native.Nat.{ℕ, _+_, _*_, _-_, _/_, _≤_, _<_, min}
+use lib.ListN.{length, getD, take, replicate, length-take}
+use borrow.Author.Tests.{eq-eqb, ne-eqb, not-true, not-false}
+use Rattle.graph.specs.Words.{pick, bit, sum, all, row, isIn, Distinct, setOf}
+use Rattle.table.specs.declared.Task.{Task}
+use Rattle.table.specs.Memory.{noTask, task}
+use Rattle.fitness.specs.Fitness.{zeroTask, taskFits}
 use Rattle.fitness.proofs.Behind.{all-more, all-off, all-done}
-use Rattle.machine.proofs.Rows.{fitsAt, fits-same}
+use borrow.Author.Needs.{needs}
+use native.Mathlib.Omega.{arith}
 use Rattle.machine.proofs.fitting.tasks_fit.Statement.{statement}
 use Rattle.machine.proofs.fitting.tasks_fit.Tie as tie
 
+abbrev fitsIn : ℕ → List Task → List ℕ → ℕ → List ℕ → List ℕ → List ℕ → List ℕ → ℕ → Bool
+fitsIn n tasks costs live ticks waits work rest k = taskFits n (getD tasks k noTask) costs (bit live k) (getD ticks k 0) (getD waits k 0) (getD work k 0) rest k
+
 abbrev Inv-loop : tie.InvT-loop
-Inv-loop n clock tasks costs states left work i₀ i = (i ≤ 16) × (all i (fitsAt n tasks costs clock states work left) ≡ true)
+Inv-loop costs live ticks waits work remaining n tasks i₀ i = (i ≤ 16) × (all i (fitsIn n tasks costs live ticks waits work remaining) ≡ true)
 
 abbrev μ-loop : tie.MeasureT-loop
-μ-loop n clock tasks costs states left work i₀ i = 16 - i
+μ-loop costs live ticks waits work remaining n tasks i₀ i = 16 - i
 
 cast-n : tie.Need-cast-n Inv-loop μ-loop
 cast-n c = search needs
@@ -32,28 +37,36 @@ mul-a c = search needs
 array-copy-out-a : tie.Need-array-copy-out-a Inv-loop μ-loop
 array-copy-out-a c = search needs
 
-mul-s : tie.Need-mul-s Inv-loop μ-loop
-mul-s c = search needs
+cast-is-live : tie.Need-cast-is-live Inv-loop μ-loop
+cast-is-live c = search needs
 
-array-copy-out-s : tie.Need-array-copy-out-s Inv-loop μ-loop
-array-copy-out-s c = search needs
+shr-is-live : tie.Need-shr-is-live Inv-loop μ-loop
+shr-is-live c = search needs
 
-mul-task-fits : tie.Need-mul-task-fits Inv-loop μ-loop
-mul-task-fits c = search needs
+mul-fits-task : tie.Need-mul-fits-task Inv-loop μ-loop
+mul-fits-task c = search needs
 
-array-read-task-fits : tie.Need-array-read-task-fits Inv-loop μ-loop
-array-read-task-fits c = search needs
+element-copy-out-fits-task : tie.Need-element-copy-out-fits-task Inv-loop μ-loop
+element-copy-out-fits-task c = search needs
 
-task-fits-requires : tie.Need-task-fits-requires Inv-loop μ-loop
-task-fits-requires c κs = search needs
+mul-fits-task-2 : tie.Need-mul-fits-task-2 Inv-loop μ-loop
+mul-fits-task-2 c = search needs
+
+element-copy-out-fits-task-2 : tie.Need-element-copy-out-fits-task-2 Inv-loop μ-loop
+element-copy-out-fits-task-2 c = search needs
+
+mul-fits-task-3 : tie.Need-mul-fits-task-3 Inv-loop μ-loop
+mul-fits-task-3 c = search needs
+
+element-copy-out-fits-task-3 : tie.Need-element-copy-out-fits-task-3 Inv-loop μ-loop
+element-copy-out-fits-task-3 c = search needs
+
+fits-task-requires : tie.Need-fits-task-requires Inv-loop μ-loop
+fits-task-requires c κs = search needs
 
 returns : tie.Need-returns Inv-loop μ-loop
-unfolding noTask idle
-returns c =
-    let l = c .before .before .before .before .before .before .before .loop in
-    let s = c .before .before .before .before .before .before .before .before .before .before .before .before .before .before in
-    all-off 16 _ (l .i) (omega arith) (sym (c .before .task-fits .ensures) ∙ not-true _ (c .if1 .taken))
-    ∙ fits-same (s .args .t) (s .args .st) (s .pre) _ _ refl refl
+unfolding bit noTask task
+returns c = let l = c .before .before .before .before .before .before .before .loop in all-off 16 _ (l .i) (omega arith) (sym (c .before .fits-task .ensures) ∙ not-true _ (c .if1 .taken))
 
 add-i : tie.Need-add-i Inv-loop μ-loop
 add-i c = search needs
@@ -62,16 +75,12 @@ loop-less : tie.Need-loop-less Inv-loop μ-loop
 loop-less c = search needs
 
 loop-again : tie.Need-loop-again Inv-loop μ-loop
-unfolding noTask idle
-loop-again c =
-    let l = c .before .before .before .before .before .before .before .loop in
-    (omega arith, all-more _ _ (l .inv .1) (sym (c .before .task-fits .ensures) ∙ not-false _ (c .if1 .left)))
+unfolding bit noTask
+loop-again c = let l = c .before .before .before .before .before .before .before .loop in (omega arith, all-more _ _ (l .inv .1) (sym (c .before .fits-task .ensures) ∙ not-false _ (c .if1 .left)))
 
 returns-2 : tie.Need-returns-2 Inv-loop μ-loop
-returns-2 c =
-    let s = c .before .before .before .before .before .before .before .before in
-    all-done 16 _ (c .before .loop .i) (omega arith) (c .before .loop .inv .1)
-    ∙ fits-same (s .args .t) (s .args .st) (s .pre) _ _ refl refl
+unfolding task
+returns-2 c = all-done 16 _ (c .before .loop .i) (omega arith) (c .before .loop .inv .1)
 
 pub tasks-fit-spec : {M : Type 1} → statement M
 tasks-fit-spec =
@@ -83,11 +92,15 @@ tasks-fit-spec =
     loop-holds
     mul-a
     array-copy-out-a
-    mul-s
-    array-copy-out-s
-    mul-task-fits
-    array-read-task-fits
-    task-fits-requires
+    cast-is-live
+    shr-is-live
+    mul-fits-task
+    element-copy-out-fits-task
+    mul-fits-task-2
+    element-copy-out-fits-task-2
+    mul-fits-task-3
+    element-copy-out-fits-task-3
+    fits-task-requires
     returns
     add-i
     loop-less

@@ -57,8 +57,11 @@ loop-again c =
     let a = c .before .before .before .before .before .args in
     let f = workIn (a .t .costs) (a .named) (a .st .work) in
     ⊎-elim
-    (λ w. (omega arith, rw (w .3) (filled-set 16 0 f (a .st .work) (l .i) (l .work) (l .inv .1) (w .2 .result) (omega arith)
-        (w .2 .ensures ∙ sym (work-sum (a .t .costs) (l .i) (omega arith)) ∙ rw (eq-eqb _ _ (w .0 .taken)) refl))))
+    (λ w. (
+      omega arith,
+      rw (w .3) (filled-set 16 0 f (a .st .work) (l .i) (l .work) (l .inv .1) (w .2 .result) (omega arith)
+          (w .2 .ensures ∙ sym (work-sum (a .t .costs) (l .i) (omega arith)) ∙ rw (eq-eqb _ _ (w .0 .taken)) refl)),
+    ))
     (λ w. (omega arith, rw (w .1) (filled-kept 16 0 f (a .st .work) (l .i) (l .work) (l .inv .1) (rw (ne-eqb _ _ (w .0 .left)) refl))))
     (c .if1 .came)
 

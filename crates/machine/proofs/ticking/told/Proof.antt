@@ -1,19 +1,16 @@
 use mathlib.Core.Path.{ap}
-use mathlib.Core.List.{List}
-use borrow.Author.Needs.{needs}
-use Rattle.machine.specs.declared.Pair.{Pair}
+use Rattle.machine.specs.declared.Answer.{Answer}
 use Rattle.machine.specs.Ticking.{ticked}
+use borrow.Author.Needs.{needs}
 use Rattle.machine.proofs.ticking.told.Statement.{statement}
 use Rattle.machine.proofs.ticking.told.Tie as tie
 
-run-list-requires : tie.Need-run-list-requires
-run-list-requires c κs = search needs
+answer-requires : tie.Need-answer-requires
+answer-requires c κs = search needs
 
 returns : tie.Need-returns
 unfolding ticked
-returns c =
-    let a = c .before .args in
-    ap (λ (l : List Pair). record { answer = record { reply = record { number = a .number; place = 0; task = a .task }; ran = l; finished = a .done }; state = a .st }) (c .run-list .ensures)
+returns c = ap (λ (x : Answer). record { answer = x; state = c .before .args .st }) (c .answer .ensures)
 
 pub told-spec : {M : Type 1} → statement M
-told-spec = tie.close (tie.spec run-list-requires returns)
+told-spec = tie.close (tie.spec answer-requires returns)

@@ -1,8 +1,7 @@
--- What wraps back to the deadline is the difference, wrapped.
+use Rattle.machine.specs.States.{idle, isLive, waitOf, deadlineOf, ticksLeft, wrap}
 use borrow.Author.Needs.{needs}
-use Rattle.machine.specs.States.{wrap, ticksLeft}
-use Rattle.machine.proofs.fitting.ticks_left.Statement.{statement}
-use Rattle.machine.proofs.fitting.ticks_left.Tie as tie
+use Rattle.machine.proofs.held.ticks_left.Statement.{statement}
+use Rattle.machine.proofs.held.ticks_left.Tie as tie
 
 wrapping-sub-u32-requires : tie.Need-wrapping-sub-u32-requires
 wrapping-sub-u32-requires c κs = search needs

@@ -1,0 +1,117 @@
+use mathlib.Core.Path.{_≡_, refl, sym, ap, ap₂, subst, _∙_}
+use mathlib.Core.Logic.{⊎-elim}
+use mathlib.Core.List.{List}
+use Prim.Native.Nat.{ℕ, _+_, _*_, _-_, _/_, _≤_, _<_, min}
+use lib.ListN.{length, getD, take, replicate, length-take}
+use borrow.Author.Tests.{eq-eqb, ne-eqb, not-true, not-false}
+use Rattle.graph.specs.Words.{pick, bit, sum, all, row, isIn, Distinct, setOf}
+use Rattle.table.specs.declared.Task.{Task}
+use Rattle.table.specs.Memory.{noTask, task, D, T}
+use Rattle.machine.specs.States.{idle, isLive, waitOf, deadlineOf, ticksLeft, wrap}
+use Rattle.machine.proofs.Filling.{same-throughout, Filled, filled-none, filled-set, filled-kept, filled-all}
+use borrow.Author.Needs.{needs}
+use native.Mathlib.Omega.{arith}
+use Rattle.machine.proofs.lent.begin_named.Statement.{statement}
+use Rattle.machine.proofs.lent.begin_named.Tie as tie
+
+-- what tells of task k after step 1
+abbrev deadlineIn : ℕ → ℕ → List Task → List ℕ → ℕ → ℕ
+deadlineIn clock named tasks before k = pick (bit named k) (wrap (clock + getD tasks k noTask .d)) (getD before k 0)
+
+abbrev waitIn : ℕ → List Task → List ℕ → ℕ → ℕ
+waitIn named tasks before k = pick (bit named k) (getD tasks k noTask .t) (getD before k 0)
+
+abbrev Inv-loop : tie.InvT-loop
+Inv-loop clock named deadlines₀ waits₀ tasks i₀ deadlines waits i = (i ≤ 16) × Filled 16 0 (deadlineIn clock named tasks deadlines₀) deadlines₀ i deadlines × Filled 16 0 (waitIn named tasks waits₀) waits₀ i waits
+
+abbrev μ-loop : tie.MeasureT-loop
+μ-loop clock named deadlines₀ waits₀ tasks i₀ deadlines waits i = 16 - i
+
+loop-holds : tie.Need-loop-holds Inv-loop μ-loop
+loop-holds c = (search needs, filled-none 16 0 _ _ (c .before .pre .0), filled-none 16 0 _ _ (c .before .pre .1))
+
+cast-if1 : tie.Need-cast-if1 Inv-loop μ-loop
+cast-if1 c = search needs
+
+shr-if1 : tie.Need-shr-if1 Inv-loop μ-loop
+shr-if1 c = search needs
+
+mul-wrapping-add-u32 : tie.Need-mul-wrapping-add-u32 Inv-loop μ-loop
+mul-wrapping-add-u32 c = search needs
+
+element-copy-out-wrapping-add-u32 : tie.Need-element-copy-out-wrapping-add-u32 Inv-loop μ-loop
+element-copy-out-wrapping-add-u32 c = search needs
+
+wrapping-add-u32-requires : tie.Need-wrapping-add-u32-requires Inv-loop μ-loop
+wrapping-add-u32-requires c κs = search needs
+
+mul-deadlines : tie.Need-mul-deadlines Inv-loop μ-loop
+mul-deadlines c = search needs
+
+element-write-deadlines : tie.Need-element-write-deadlines Inv-loop μ-loop
+element-write-deadlines c = search needs
+
+mul-waits : tie.Need-mul-waits Inv-loop μ-loop
+mul-waits c = search needs
+
+element-copy-out-waits : tie.Need-element-copy-out-waits Inv-loop μ-loop
+element-copy-out-waits c = search needs
+
+mul-waits-2 : tie.Need-mul-waits-2 Inv-loop μ-loop
+mul-waits-2 c = search needs
+
+element-write-waits : tie.Need-element-write-waits Inv-loop μ-loop
+element-write-waits c = search needs
+
+add-i : tie.Need-add-i Inv-loop μ-loop
+add-i c = search needs
+
+loop-less : tie.Need-loop-less Inv-loop μ-loop
+loop-less c = search needs
+
+loop-again : tie.Need-loop-again Inv-loop μ-loop
+unfolding bit noTask wrap
+loop-again c =
+    let l = c .before .before .loop in
+    let a = c .before .before .before .before .args in
+    let f = deadlineIn (a .clock) (a .named) (a .t .tasks) (a .deadlines .now) in
+    let g = waitIn (a .named) (a .t .tasks) (a .waits .now) in
+    ⊎-elim
+    (λ w. (
+      omega arith,
+      rw (w .2) (filled-set 16 0 f (a .deadlines .now) (l .i) (l .deadlines) (l .inv .1) (w .1 .result) (omega arith) (rw (eq-eqb _ _ (w .0 .taken)) (w .1 .ensures))),
+      rw (w .3) (filled-set 16 0 g (a .waits .now) (l .i) (l .waits) (l .inv .2) _ (omega arith) (rw (eq-eqb _ _ (w .0 .taken)) refl)),
+    ))
+    (λ w. (
+      omega arith,
+      rw (w .1) (filled-kept 16 0 f (a .deadlines .now) (l .i) (l .deadlines) (l .inv .1) (rw (ne-eqb _ _ (w .0 .left)) refl)),
+      rw (w .2) (filled-kept 16 0 g (a .waits .now) (l .i) (l .waits) (l .inv .2) (rw (ne-eqb _ _ (w .0 .left)) refl)),
+    ))
+    (c .if1 .came)
+
+returns : tie.Need-returns Inv-loop μ-loop
+unfolding D T task
+returns c = (filled-all 16 0 _ _ _ _ (c .before .loop .inv .1) (omega arith), filled-all 16 0 _ _ _ _ (c .before .loop .inv .2) (omega arith))
+
+pub begin-named-spec : {M : Type 1} → statement M
+begin-named-spec =
+    tie.close
+    (tie.spec
+    Inv-loop
+    μ-loop
+    loop-holds
+    cast-if1
+    shr-if1
+    mul-wrapping-add-u32
+    element-copy-out-wrapping-add-u32
+    wrapping-add-u32-requires
+    mul-deadlines
+    element-write-deadlines
+    mul-waits
+    element-copy-out-waits
+    mul-waits-2
+    element-write-waits
+    add-i
+    loop-less
+    loop-again
+    returns)

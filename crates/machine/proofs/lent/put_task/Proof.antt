@@ -1,0 +1,74 @@
+use mathlib.Core.Path.{_≡_, refl, sym, ap, ap₂, subst, _∙_}
+use mathlib.Core.List.{List}
+use Prim.Native.Nat.{ℕ, _+_, _*_, _-_, _/_, _≤_, _<_, min}
+use lib.ListN.{length, getD, take, replicate, length-take}
+use Rattle.machine.proofs.Putting.{PutTo, put-none, put-one, put-all, PutNamed, named-none, named-one, named-other, named-all, none-named, no-change}
+use borrow.Author.Needs.{needs}
+use native.Mathlib.Omega.{arith}
+use Rattle.machine.proofs.lent.put_task.Statement.{statement}
+use Rattle.machine.proofs.lent.put_task.Tie as tie
+
+abbrev Inv-loop : tie.InvT-loop
+Inv-loop costs i remaining₀ u₀ remaining u = (u ≤ 16) × PutTo costs remaining₀ i u remaining
+
+abbrev μ-loop : tie.MeasureT-loop
+μ-loop costs i remaining₀ u₀ remaining u = 16 - u
+
+loop-holds : tie.Need-loop-holds Inv-loop μ-loop
+loop-holds c = (search needs, put-none _ _ _ (c .pre .1))
+
+mul-remaining : tie.Need-mul-remaining Inv-loop μ-loop
+mul-remaining c = search needs
+
+add-remaining : tie.Need-add-remaining Inv-loop μ-loop
+add-remaining c = search needs
+
+mul-remaining-2 : tie.Need-mul-remaining-2 Inv-loop μ-loop
+mul-remaining-2 c = search needs
+
+element-copy-out-remaining : tie.Need-element-copy-out-remaining Inv-loop μ-loop
+element-copy-out-remaining c = search needs
+
+mul-remaining-3 : tie.Need-mul-remaining-3 Inv-loop μ-loop
+mul-remaining-3 c = search needs
+
+add-remaining-2 : tie.Need-add-remaining-2 Inv-loop μ-loop
+add-remaining-2 c = search needs
+
+mul-remaining-4 : tie.Need-mul-remaining-4 Inv-loop μ-loop
+mul-remaining-4 c = search needs
+
+element-write-remaining : tie.Need-element-write-remaining Inv-loop μ-loop
+element-write-remaining c = search needs
+
+add-u : tie.Need-add-u Inv-loop μ-loop
+add-u c = search needs
+
+loop-less : tie.Need-loop-less Inv-loop μ-loop
+loop-less c = search needs
+
+loop-again : tie.Need-loop-again Inv-loop μ-loop
+loop-again c = let l = c .before .before .loop in let a = c .before .before .before .args in (omega arith, put-one (a .costs .now) (a .remaining .now) (a .i) (l .u) (l .remaining) (l .inv .1) (omega arith) (omega arith))
+
+returns : tie.Need-returns Inv-loop μ-loop
+returns c = put-all _ _ _ (c .before .loop .u) (c .before .loop .remaining) (c .before .loop .inv .1) (omega arith)
+
+pub put-task-spec : {M : Type 1} → statement M
+put-task-spec =
+    tie.close
+    (tie.spec
+    Inv-loop
+    μ-loop
+    loop-holds
+    mul-remaining
+    add-remaining
+    mul-remaining-2
+    element-copy-out-remaining
+    mul-remaining-3
+    add-remaining-2
+    mul-remaining-4
+    element-write-remaining
+    add-u
+    loop-less
+    loop-again
+    returns)
