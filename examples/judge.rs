@@ -21,6 +21,7 @@ mod milltundra {
         pub at: u8,
         pub tasks: [TaskState; 16],
         pub remaining: [u32; 256],
+        pub work: [u64; 16],
     }
 
     #[repr(C)]
