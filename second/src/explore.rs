@@ -127,6 +127,7 @@ pub fn unpack(mut key: u64) -> State {
         for h in 0..TINY {
             state.remaining[ENTRIES * i + h] = next();
         }
+        state.work[i] = summed(sixteen(&state.remaining, i));
     }
     state
 }

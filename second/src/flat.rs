@@ -24,6 +24,7 @@ pub struct FlatState {
     pub at: u8,
     pub tasks: [FlatTask; ENTRIES],
     pub remaining: [u32; ROW],
+    pub work: [u64; ENTRIES],
 }
 
 impl From<&State> for FlatState {
@@ -38,6 +39,7 @@ impl From<&State> for FlatState {
             at,
             tasks: state.tasks.map(flat_task),
             remaining: state.remaining,
+            work: state.work,
         }
     }
 }
@@ -77,6 +79,7 @@ impl FlatState {
             };
         }
         state.remaining = self.remaining;
+        state.work = self.work;
         Some(state)
     }
 }

@@ -39,6 +39,8 @@ pub struct State {
     pub tasks: [Job; ENTRIES],
     /// What remains of vertex h of task i stands at 16 i + h.
     pub remaining: [u32; ROW],
+    /// The work left of each task's job: the sum of its remainings.
+    pub work: [u64; ENTRIES],
 }
 
 impl State {
@@ -49,8 +51,14 @@ impl State {
             phase,
             tasks: [Job::ZERO; ENTRIES],
             remaining: [0; ROW],
+            work: [0; ENTRIES],
         }
     }
+}
+
+/// All the work that a row of sixteen numbers stands for.
+pub fn summed(row: &[u32; ENTRIES]) -> u64 {
+    row.iter().map(|ticks| u64::from(*ticks)).sum()
 }
 
 #[derive(Clone, Copy, PartialEq, Eq, Debug)]
@@ -179,6 +187,7 @@ pub fn release(table: &Table, state: &State, releases: u16) -> State {
         next.tasks[i] = Job::Live { deadline, wait };
         let row = ENTRIES * i..ENTRIES * (i + 1);
         next.remaining[row.clone()].copy_from_slice(&table.costs[row]);
+        next.work[i] = summed(table.costs_of(i));
     }
     next
 }
@@ -253,6 +262,7 @@ pub fn go_on(table: &Table, released: &State, releases: u16, ran: &[Vertex]) -> 
     next.clock = released.clock.wrapping_add(1);
     for (task, vertex) in ran {
         next.remaining[ENTRIES * usize::from(*task) + usize::from(*vertex)] -= 1;
+        next.work[usize::from(*task)] -= 1;
     }
     let mut finished = 0;
     let mut missed = None;
@@ -262,7 +272,7 @@ pub fn go_on(table: &Table, released: &State, releases: u16, ran: &[Vertex]) -> 
         } else {
             released.tasks[i].wait().saturating_sub(1)
         };
-        let done = sixteen(&next.remaining, i).iter().all(|r| *r == 0);
+        let done = next.work[i] == 0;
         next.tasks[i] = match released.tasks[i] {
             Job::Live { deadline, .. } if !done => {
                 if deadline == next.clock {

@@ -1,6 +1,6 @@
 //! The text that shows a table run, tick by tick.
 
-use crate::machine::{open, tick_table, Answer, State, NO_VERTEX};
+use crate::machine::{open, tick_table, Answer, Job, State, NO_VERTEX};
 use crate::reader::read;
 use crate::table::{Table, ENTRIES};
 use crate::verdict::NO_TASK;
@@ -91,7 +91,8 @@ fn put_tick(
     match answer.number {
         0 | 34 => {
             let (run, finish) = (vertices(&answer), tasks(answer.finished));
-            write!(text, " run {run} finish {finish}")?;
+            let left = left(&ticked.state);
+            write!(text, " run {run} finish {finish} left {left}")?;
             if answer.number == 34 {
                 write!(text, " miss {}", answer.task)?;
             }
@@ -117,6 +118,12 @@ fn tasks(set: u16) -> String {
 fn vertices(answer: &Answer) -> String {
     let ran = answer.ran.iter().filter(|place| **place != NO_VERTEX);
     list(ran.map(|(i, h)| format!("{i}.{h}")).collect())
+}
+
+/// What is left of the work of each live job, ascending by task.
+fn left(state: &State) -> String {
+    let live = (0..ENTRIES).filter(|i| matches!(state.tasks[*i], Job::Live { .. }));
+    list(live.map(|i| format!("{i}:{}", state.work[i])).collect())
 }
 
 fn list(words: Vec<String>) -> String {

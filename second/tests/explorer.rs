@@ -100,6 +100,7 @@ fn packing_goes_both_ways() {
         assert_eq!(pack(&back), pack(&state));
         assert_eq!(fits(&table, &back), fits(&table, &state));
         assert_eq!(back.remaining, state.remaining);
+        assert_eq!(back.work, state.work);
     }
 }
 

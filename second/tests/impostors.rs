@@ -191,6 +191,7 @@ fn ends_all_at_once(bytes: &[u8], state: &State, releases: u16) -> Ticked {
         ticked.state.tasks[i] = Job::Idle { wait };
     }
     ticked.state.remaining = [0; 256];
+    ticked.state.work = [0; 16];
     ticked
 }
 

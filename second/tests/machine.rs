@@ -27,7 +27,8 @@ fn fits_plainly(table: &Table, state: &State) -> bool {
             unreachable!()
         };
         let idle = state.tasks.iter().all(|job| *job == Job::Idle { wait: 0 });
-        return usize::from(task) < n && idle && state.remaining.iter().all(|r| *r == 0);
+        let nothing = state.remaining.iter().all(|r| *r == 0);
+        return usize::from(task) < n && idle && nothing && state.work == [0; ENTRIES];
     };
     for i in 0..ENTRIES {
         let task = &table.tasks[i];
@@ -55,7 +56,8 @@ fn fits_plainly(table: &Table, state: &State) -> bool {
                     && unused
             }
         };
-        if !good {
+        let stored = i128::from(state.work[i]);
+        if !good || stored != (0..ENTRIES).map(|h| i128::from(rest(h))).sum() {
             return false;
         }
     }
@@ -182,6 +184,7 @@ fn conservation_on_random_runs() {
                     .iter()
                     .map(|x| u64::from(*x))
                     .sum();
+                assert_eq!(ticked.state.work[i], rest);
                 if finished {
                     assert_eq!(*count, vol(i));
                     assert!(matches!(ticked.state.tasks[i], Job::Idle { .. }));

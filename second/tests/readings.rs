@@ -164,7 +164,9 @@ fn a8_a_stopped_state_is_zero() {
     waits.tasks[0] = Job::Idle { wait: 1 };
     let mut rest = base;
     rest.remaining[255] = 1;
-    for state in [live, waits, rest] {
+    let mut both = rest;
+    both.work[15] = 1;
+    for state in [live, waits, rest, both] {
         assert_eq!(tick(&TABLE_A, &state, 0).answer.number, 30);
     }
     for clock in [0, 1, u32::MAX] {
@@ -231,6 +233,7 @@ fn a12_ticks_left_from_one_to_d_less_one() {
         let deadline = state.clock.wrapping_add(left);
         state.tasks[0] = Job::Live { deadline, wait };
         state.remaining[0] = 1;
+        state.work[0] = 1;
         state
     };
     let one = row_of(&[(1, 5)]);
@@ -258,6 +261,7 @@ fn a13_a_fitting_state_need_not_be_reachable() {
         wait: 3,
     };
     state.remaining[..3].copy_from_slice(&[2, 3, 1]);
+    state.work[0] = 6;
     assert!(fits(&a, &state));
     let ticked = tick(&TABLE_A, &state, 0);
     assert_eq!((ticked.answer.number, ticked.answer.task), (34, 0));
@@ -328,4 +332,43 @@ fn a19_twenty_names_the_lowest_not_the_smallest() {
     let table = row_of(&[(9, 9), (6, 9), (6, 9)]);
     let answer = verdict(&file(&table));
     assert_eq!((answer.number, answer.task, answer.margin), (0, 1, 3));
+}
+
+/// Table A runs with task 0 live and task 1 idle; or it is stopped.
+fn running_and_stopped() -> [State; 2] {
+    let running = tick(&TABLE_A, &open(&TABLE_A, 0).state, 1).state;
+    [running, State::zeros(9, Phase::Stopped(1))]
+}
+
+#[test]
+fn d5_a_stored_number_that_differs_is_thirty() {
+    for (state, number) in running_and_stopped().into_iter().zip([0, 32]) {
+        assert_eq!(tick(&TABLE_A, &state, 0).answer.number, number);
+        // Task 0 is live or stopped, task 1 idle or stopped at, 2 and 15 unused.
+        for task in [0, 1, 2, 15] {
+            for wrong in [1, 4, 6, 1 << 32, 5 + (1 << 32), u64::MAX] {
+                let mut state = state;
+                state.work[task] = state.work[task].wrapping_add(wrong);
+                let ticked = tick(&TABLE_A, &state, 0);
+                assert_eq!(ticked.answer.number, 30, "{task} {wrong}");
+                assert_eq!(ticked.state, state);
+            }
+        }
+    }
+}
+
+#[test]
+fn d6_stored_work_over_a_run() {
+    let [running, stopped] = running_and_stopped();
+    let with = |work: u64| {
+        let mut row = [0; 16];
+        row[0] = work;
+        row
+    };
+    assert_eq!((running.work, stopped.work), (with(5), with(0)));
+    let mut state = running;
+    for work in [4, 2, 1, 0, 0] {
+        assert_eq!(tick_in_place(&TABLE_A, &mut state, 0).number, 0);
+        assert_eq!(state.work, with(work));
+    }
 }

@@ -145,7 +145,7 @@ fn ruling_on(file: &[u8]) -> Ruling {
 
 // Writes a line.
 fn print(line: Line) -> bool {
-    let n = smaller(line.len, 512);
+    let n = smaller(line.len, 640);
     let words = line.bytes;
     io::write_all(STDOUT_FILENO, &words[..n])
 }

@@ -13,8 +13,8 @@ use Rattle.machine.specs.declared.Ticked.{Ticked}
 use Rattle.machine.specs.States.{openRead, opening}
 use Rattle.machine.specs.Steps.{ownChoice}
 use Rattle.machine.specs.Ticking.{tickRead, tickBy, tick}
-use Rattle.lines.specs.Lines.{openLineRead, openLine, tickLine}
-use Rattle.lines.specs.Watching.{ticksText, runText}
+use Rattle.lines.specs.Lines.{openLineRead, openLine}
+use Rattle.lines.specs.Watching.{tickedLine, ticksText, runText}
 
 pub opening-prefix : (s : List ℕ) (clock : ℕ) → opening (take 5061 s) clock ≡ opening s clock
 unfolding opening
@@ -32,8 +32,8 @@ ticks-prefix : (s : List ℕ) (st : State) (sets : List ℕ) → ticksText (take
 unfolding ticksText
 ticks-prefix s st [] = refl
 ticks-prefix s st (named ∷ more) =
-    ap (λ (t : Ticked). tickLine (st .clock) named (t .answer) ++ ticksText (take 5061 s) (t .state) more) (tick-prefix s st named)
-    ∙ ap (λ (l : List ℕ). tickLine (st .clock) named (tick s st named .answer) ++ l) (ticks-prefix s (tick s st named .state) more)
+    ap (λ (t : Ticked). tickedLine st named t ++ ticksText (take 5061 s) (t .state) more) (tick-prefix s st named)
+    ∙ ap (λ (l : List ℕ). tickedLine st named (tick s st named) ++ l) (ticks-prefix s (tick s st named .state) more)
 
 pub run-prefix : (s : List ℕ) (clock : ℕ) (sets : List ℕ) → runText (take 5061 s) clock sets ≡ runText s clock sets
 unfolding runText

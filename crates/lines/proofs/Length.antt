@@ -1,4 +1,4 @@
--- Every line fits its buffer: at most 86 bytes for opening, 204 for a tick.
+-- Every line fits its buffer: at most 86 bytes for opening, 593 for a tick.
 use mathlib.Core.Path.{_≡_}
 use mathlib.Core.Bool.{Bool, true, false}
 use mathlib.Core.List.{List, [], _∷_, _++_}
@@ -6,7 +6,7 @@ use Prim.Native.Nat.{ℕ, _*_, _^_, _≤_, _<_}
 use native.Mathlib.Omega.{arith}
 use native.Mathlib.Nat.{mul-suc}
 use lib.Dec.{eqb}
-use lib.ListN.{length, length-append}
+use lib.ListN.{length, getD, length-append}
 use Rattle.graph.specs.Words.{pick, bit, inOrder}
 use Rattle.text.specs.Text.{text, newline, decimal}
 use Rattle.text.proofs.Decimal.{decimal-short, decimal-length}
@@ -19,7 +19,7 @@ use Rattle.table.specs.Reading.{whenRead, read}
 use Rattle.machine.specs.declared.Pair.{Pair}
 use Rattle.machine.specs.declared.Reply.{Reply}
 use Rattle.machine.specs.declared.Answer.{Answer}
-use Rattle.lines.specs.Lines.{refuseLine, openedLine, openLineRead, openLine, orDash, numberIn, numbersIn, vertexText, verticesText, wentText, missText, refusalText, answerText, tickLine}
+use Rattle.lines.specs.Lines.{refuseLine, openedLine, openLineRead, openLine, orDash, numberIn, numbersIn, vertexText, verticesText, workIn, leftText, wentText, missText, refusalText, answerText, tickLine}
 
 -- ---- opening
 refuse-most : (o : Outcome) → length (refuseLine o) ≤ 86
@@ -88,14 +88,29 @@ unfolding verticesText SmallPairs
 vertices-most [] s = omega arith
 vertices-most (p ∷ l) s = simp length-append (omega (arith, vertex-most p (s .0) (s .1), vertices-most l (s .2), mul-suc 8 (length l)))
 
-module _ (a : Answer) (typed : TypedAnswer a) where
-  went-most : length (wentText a) ≤ 123
+-- any number of 64 bits may be left
+work-most : (live : ℕ) (work : List ℕ) (i : ℕ) → i < 16 → length (workIn live work i) ≤ 24
+unfolding workIn text
+work-most live work i h = go (bit live i)
+  where
+    go : (b : Bool) → length (pick b (text " " ++ decimal i ++ text ":" ++ decimal (getD work i 0)) []) ≤ 24
+    go true = simp length-append (omega (arith, decimal-short 1 i (omega arith), decimal-length (getD work i 0) .1))
+    go false = omega arith
+
+left-most : (live : ℕ) (work : List ℕ) → length (leftText live work) ≤ 389
+unfolding leftText inOrder text
+left-most live work =
+    let r = dash-most (inOrder 16 (workIn live work)) 384 (joined-most 16 0 24 (workIn live work) (λ j b. work-most live work j (omega arith))) (omega arith) in
+    simp length-append (omega (arith, r))
+
+module _ (a : Answer) (typed : TypedAnswer a) (live : ℕ) (work : List ℕ) where
+  went-most : length (wentText a live work) ≤ 512
   unfolding wentText text
   went-most =
       let r = dash-most (verticesText (a .ran)) 64 (omega (arith, vertices-most (a .ran) (typed .small), typed .eight)) (omega arith) in
-      simp length-append (omega (arith, r, numbers-most (a .finished)))
+      simp length-append (omega (arith, r, numbers-most (a .finished), left-most live work))
 
-  miss-most : length (missText a) ≤ 132
+  miss-most : length (missText a live work) ≤ 521
   unfolding missText text
   miss-most = simp length-append (omega (arith, went-most, decimal-short 2 (a .reply .task) (omega (arith, typed .task-byte))))
 
@@ -107,16 +122,16 @@ refusal-most r i h = go (eqb (r .task) 255)
     go true = simp length-append (omega (arith, decimal-short 2 (r .number) (omega arith)))
     go false = simp length-append (omega (arith, decimal-short 2 (r .number) (omega arith), decimal-short 2 (r .task) (omega arith)))
 
-answer-most : (a : Answer) → TypedAnswer a → length (answerText a) ≤ 132
+answer-most : (a : Answer) → TypedAnswer a → (live : ℕ) (work : List ℕ) → length (answerText a live work) ≤ 521
 unfolding answerText
-answer-most a t = go (eqb (a .reply .number) 0) (eqb (a .reply .number) 34)
+answer-most a t live work = go (eqb (a .reply .number) 0) (eqb (a .reply .number) 34)
   where
-    go : (b c : Bool) → length (pick b (wentText a) (pick c (missText a) (refusalText (a .reply)))) ≤ 132
-    go true c = omega (arith, went-most a t)
-    go false true = miss-most a t
+    go : (b c : Bool) → length (pick b (wentText a live work) (pick c (missText a live work) (refusalText (a .reply)))) ≤ 521
+    go true c = omega (arith, went-most a t live work)
+    go false true = miss-most a t live work
     go false false = omega (arith, refusal-most (a .reply) (t .number-byte) (t .task-byte))
 
 -- A TICK'S LINE'S LENGTH
-pub tick-most : (clock named : ℕ) (a : Answer) → clock < 2 ^ 32 → TypedAnswer a → length (tickLine clock named a) ≤ 204
+pub tick-most : (clock named : ℕ) (a : Answer) (live : ℕ) (work : List ℕ) → clock < 2 ^ 32 → TypedAnswer a → length (tickLine clock named a live work) ≤ 593
 unfolding tickLine text newline
-tick-most clock named a h t = simp length-append (omega (arith, decimal-short 9 clock (omega arith), numbers-most named, answer-most a t))
+tick-most clock named a live work h t = simp length-append (omega (arith, decimal-short 9 clock (omega arith), numbers-most named, answer-most a t live work))

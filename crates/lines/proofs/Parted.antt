@@ -41,18 +41,18 @@ pub refusal-is : (r : Reply) → (r .task ≡ 255 → ⊥) → text " refuse " +
 unfolding refusalText
 refusal-is r e = rw (ne-eqb (r .task) 255 e)
 
-module _ (a : Answer) where
-  pub answer-went : a .reply .number ≡ 0 → wentText a ≡ answerText a
+module _ (a : Answer) (live : ℕ) (work : List ℕ) where
+  pub answer-went : a .reply .number ≡ 0 → wentText a live work ≡ answerText a live work
   unfolding answerText
   answer-went e = rw (eq-eqb (a .reply .number) 0 e)
 
-  pub answer-missed : a .reply .number ≡ 34 → wentText a ++ (text " miss " ++ decimal (a .reply .task)) ≡ answerText a
+  pub answer-missed : a .reply .number ≡ 34 → wentText a live work ++ (text " miss " ++ decimal (a .reply .task)) ≡ answerText a live work
   unfolding answerText missText
   answer-missed e =
       let n : a .reply .number ≡ 0 → ⊥ = λ (f : a .reply .number ≡ 0). omega arith in
-      rw (ne-eqb (a .reply .number) 0 n, eq-eqb (a .reply .number) 34 e) (sym (append-assoc (wentText a) (text " miss ") (decimal (a .reply .task))))
+      rw (ne-eqb (a .reply .number) 0 n, eq-eqb (a .reply .number) 34 e) (sym (append-assoc (wentText a live work) (text " miss ") (decimal (a .reply .task))))
 
-  pub answer-refused : (a .reply .number ≡ 0 → ⊥) → (a .reply .number ≡ 34 → ⊥) → refusalText (a .reply) ≡ answerText a
+  pub answer-refused : (a .reply .number ≡ 0 → ⊥) → (a .reply .number ≡ 34 → ⊥) → refusalText (a .reply) ≡ answerText a live work
   unfolding answerText
   answer-refused e f = rw (ne-eqb (a .reply .number) 0 e, ne-eqb (a .reply .number) 34 f)
 

@@ -2,7 +2,7 @@
 use mathlib.Core.List.{List, [], _∷_, _++_}
 use Prim.Native.Nat.{ℕ, _-_}
 use lib.Dec.{eqb}
-use lib.ListN.{length, replicate}
+use lib.ListN.{length, getD, replicate}
 use Rattle.graph.specs.Words.{pick, bit, inOrder}
 use Rattle.text.specs.Text.{text, newline, decimal}
 use Rattle.table.specs.declared.Outcome.{Outcome}
@@ -49,26 +49,35 @@ unfoldable pub verticesText : List Pair → List ℕ
 verticesText [] = []
 verticesText (p ∷ ps) = vertexText p ++ verticesText ps
 
--- "run X finish F"
-unfoldable pub wentText : Answer → List ℕ
-wentText a = text " run" ++ orDash (verticesText (a .ran)) ++ text " finish" ++ numbersIn (a .finished)
+-- "TASK:WORK": task i and what is left of its job's work, if it is one of the live tasks
+unfoldable pub workIn : ℕ → List ℕ → ℕ → List ℕ
+workIn live work i = pick (bit live i) (text " " ++ decimal i ++ text ":" ++ decimal (getD work i 0)) []
+
+-- "` left TASK:WORK ..` for the live jobs after the tick, ascending by task, or ` left -`"
+unfoldable pub leftText : ℕ → List ℕ → List ℕ
+leftText live work = text " left" ++ orDash (inOrder 16 (workIn live work))
+
+-- "run X finish F", and the work left
+unfoldable pub wentText : Answer → ℕ → List ℕ → List ℕ
+wentText a live work = text " run" ++ orDash (verticesText (a .ran)) ++ text " finish" ++ numbersIn (a .finished) ++ leftText live work
 
 -- "a miss adds ` miss TASK`"
-unfoldable pub missText : Answer → List ℕ
-missText a = wentText a ++ text " miss " ++ decimal (a .reply .task)
+unfoldable pub missText : Answer → ℕ → List ℕ → List ℕ
+missText a live work = wentText a live work ++ text " miss " ++ decimal (a .reply .task)
 
 -- "refuse NUMBER, with ` task TASK` where there is one": 255 is none
 unfoldable pub refusalText : Reply → List ℕ
 refusalText r = text " refuse " ++ decimal (r .number) ++ pick (eqb (r .task) 255) [] (text " task " ++ decimal (r .task))
 
 -- by the answer's number: 0, 34 or a refusal's
-unfoldable pub answerText : Answer → List ℕ
-answerText a = pick (eqb (a .reply .number) 0) (wentText a) (pick (eqb (a .reply .number) 34) (missText a) (refusalText (a .reply)))
+unfoldable pub answerText : Answer → ℕ → List ℕ → List ℕ
+answerText a live work =
+    pick (eqb (a .reply .number) 0) (wentText a live work) (pick (eqb (a .reply .number) 34) (missText a live work) (refusalText (a .reply)))
 
--- "tick CLOCK release R ..", where "CLOCK is the clock before the tick"
-unfoldable pub tickLine : ℕ → ℕ → Answer → List ℕ
-tickLine clock named a = text "tick " ++ decimal clock ++ text " release" ++ numbersIn named ++ answerText a ++ newline
+-- "tick CLOCK release R ..", where "CLOCK is the clock before the tick"; the live tasks and the work left are those after it
+unfoldable pub tickLine : ℕ → ℕ → Answer → ℕ → List ℕ → List ℕ
+tickLine clock named a live work = text "tick " ++ decimal clock ++ text " release" ++ numbersIn named ++ answerText a live work ++ newline
 
--- A LINE IN MEMORY: at the front of 512 bytes, with zeros behind it, and its length (`open-most`, `tick-most`, proofs/Length.antt)
+-- A LINE IN MEMORY: at the front of 640 bytes, with zeros behind it, and its length (`open-most`, `tick-most`, proofs/Length.antt)
 unfoldable pub lineOf : List ℕ → Line
-lineOf l = record { bytes = l ++ replicate (512 - length l) 0; len = length l }
+lineOf l = record { bytes = l ++ replicate (640 - length l) 0; len = length l }

@@ -4,9 +4,10 @@ use mathlib.Core.List.{List, [], _∷_, _++_}
 use Prim.Native.Nat.{ℕ, _+_, _*_}
 use lib.Dec.{eqb}
 use lib.ListN.{getD, take, drop}
-use Rattle.graph.specs.Words.{pick}
+use Rattle.graph.specs.Words.{pick, setOf}
 use Rattle.machine.specs.declared.State.{State}
-use Rattle.machine.specs.States.{opening}
+use Rattle.machine.specs.declared.Ticked.{Ticked}
+use Rattle.machine.specs.States.{live, opening}
 use Rattle.machine.specs.Ticking.{tick}
 use Rattle.lines.specs.declared.Shown.{Shown}
 use Rattle.lines.specs.Lines.{openLine, tickLine, lineOf}
@@ -24,10 +25,14 @@ releaseSets [] = []
 releaseSets (low ∷ []) = []
 releaseSets (low ∷ high ∷ s) = (low + 256 * high) ∷ releaseSets s
 
+-- a tick's line, by the state before it and what it gave
+unfoldable pub tickedLine : State → ℕ → Ticked → List ℕ
+tickedLine st named t = tickLine (st .clock) named (t .answer) (setOf 16 (live (t .state))) (t .state .work)
+
 -- a line for each tick, from a state on
 unfoldable pub ticksText : List ℕ → State → List ℕ → List ℕ
 ticksText table st [] = []
-ticksText table st (named ∷ more) = tickLine (st .clock) named (tick table st named .answer) ++ ticksText table (tick table st named .state) more
+ticksText table st (named ∷ more) = tickedLine st named (tick table st named) ++ ticksText table (tick table st named .state) more
 
 -- "or `refuse NUMBER at PLACE` and nothing more"
 unfoldable pub runText : List ℕ → ℕ → List ℕ → List ℕ
@@ -51,7 +56,7 @@ shownOpening table clock = record {
 
 unfoldable pub shownTick : List ℕ → State → ℕ → Shown
 shownTick table st named = record {
-  line = lineOf (tickLine (st .clock) named (tick table st named .answer));
+  line = lineOf (tickedLine st named (tick table st named));
   number = tick table st named .answer .reply .number;
   state = tick table st named .state;
 }

@@ -1,12 +1,12 @@
-// Parts of a line, into a lent buffer: words and numbers, tasks of a set, vertices that ran.
+// Parts of a line, into a lent buffer: words and numbers, tasks of a set, vertices that ran, the work left.
 ghost use mathlib.Core.List.{[], _++_};
 ghost use Prim.Native.Nat.{_+_, _≤_, _<_};
 ghost use lib.Dec.{eqb};
 ghost use lib.ListN.{length};
-ghost use Rattle.graph.specs.Words.{pick};
+ghost use Rattle.graph.specs.Words.{pick, bit, inOrder};
 ghost use Rattle.text.specs.Text.{text, newline, decimal};
 ghost use Rattle.text.specs.Laid.{Put};
-ghost use Rattle.lines.specs.Lines.{orDash, numberIn, numbersIn, vertexText, verticesText};
+ghost use Rattle.lines.specs.Lines.{orDash, numberIn, numbersIn, vertexText, verticesText, workIn};
 use machine::Pair;
 
 // Some words; the place after them.
@@ -95,6 +95,32 @@ pub(crate) fn vertices(out: &mut [u8], at: usize, ran: [Pair; 8]) -> usize
         let pair = ran[j];
         p = vertex(&mut *out, p, pair);
         j += 1;
+    }
+    dash(&mut *out, at, p)
+}
+
+// Task i and the work left of its job, if it is in the set.
+fn work_in(out: &mut [u8], at: usize, live: u16, i: u8, x: u64) -> usize
+    requires { ⌜ (at ≤ 4016) × (i < 16) ⌝ }
+    ensures { λ r. ⌜ Put (now (out .entry)) at (pick (bit live i) (text " " ++ decimal i ++ text ":" ++ decimal x) []) (now (out .exit)) r × (r ≤ at + 80) ⌝ }
+{
+    if (live >> i) % 2 == 1 {
+        let p = labelled(&mut *out, at, b" ", i as u64);
+        return labelled(&mut *out, p, b":", x);
+    }
+    at
+}
+
+// The work left of each live job, ascending by task, or a dash.
+pub(crate) fn works(out: &mut [u8], at: usize, live: u16, work: [u64; 16]) -> usize
+    requires { ⌜ at ≤ 2400 ⌝ }
+    ensures { λ r. ⌜ Put (now (out .entry)) at (orDash (inOrder 16 (workIn live work))) (now (out .exit)) r × (r ≤ at + 1300) ⌝ }
+{
+    let mut p = at;
+    let mut i: u8 = 0;
+    while i < 16 {
+        p = work_in(&mut *out, p, live, i, work[i as usize]);
+        i += 1;
     }
     dash(&mut *out, at, p)
 }

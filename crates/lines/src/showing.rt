@@ -55,7 +55,9 @@ pub fn show_tick(bytes: &[u8], st: State, releases: u16) -> Shown
     let answer = t.answer;
     let reply = answer.reply;
     let state = t.state;
-    let line = ticking::tick_line(st.clock, releases, answer);
+    let live = machine::live_set(state);
+    let work = state.work;
+    let line = ticking::tick_line(st.clock, releases, answer, live, work);
     Shown {
         line: line,
         number: reply.number,

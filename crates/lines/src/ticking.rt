@@ -4,7 +4,7 @@ ghost use mathlib.Core.List.{_++_};
 ghost use Prim.Native.Nat.{_+_, _≤_};
 ghost use lib.ListN.{length};
 ghost use Rattle.text.specs.Laid.{Put};
-ghost use Rattle.lines.specs.Lines.{numbersIn, wentText, refusalText, answerText, tickLine, lineOf};
+ghost use Rattle.lines.specs.Lines.{numbersIn, leftText, wentText, refusalText, answerText, tickLine, lineOf};
 use crate::Line;
 use crate::parts;
 use machine::Answer;
@@ -19,15 +19,25 @@ fn named(out: &mut [u8], at: usize, label: &[u8], set: u16) -> usize
     parts::numbers_in(&mut *out, p, set)
 }
 
-// The vertices that ran and the tasks finished.
-fn went(out: &mut [u8], at: usize, a: Answer) -> usize
+// The work left of each live job.
+fn left(out: &mut [u8], at: usize, live: u16, work: [u64; 16]) -> usize
+    requires { ⌜ at ≤ 2380 ⌝ }
+    ensures { λ r. ⌜ Put (now (out .entry)) at (leftText live work) (now (out .exit)) r × (r ≤ at + 1320) ⌝ }
+{
+    let p = parts::words(&mut *out, at, b" left");
+    parts::works(&mut *out, p, live, work)
+}
+
+// The vertices that ran, the tasks finished and the work left.
+fn went(out: &mut [u8], at: usize, a: Answer, live: u16, work: [u64; 16]) -> usize
     requires { ⌜ at ≤ 1000 ⌝ }
-    ensures { λ r. ⌜ Put (now (out .entry)) at (wentText a) (now (out .exit)) r × (r ≤ at + 1360) ⌝ }
+    ensures { λ r. ⌜ Put (now (out .entry)) at (wentText a live work) (now (out .exit)) r × (r ≤ at + 2680) ⌝ }
 {
     let p = parts::words(&mut *out, at, b" run");
     let ran = a.ran;
     let q = parts::vertices(&mut *out, p, ran);
-    named(&mut *out, q, b" finish", a.finished)
+    let f = named(&mut *out, q, b" finish", a.finished);
+    left(&mut *out, f, live, work)
 }
 
 // A refusal's number, and its task where there is one.
@@ -43,37 +53,37 @@ fn refusal(out: &mut [u8], at: usize, reply: Reply) -> usize
 }
 
 // What the machine answered.
-fn answered(out: &mut [u8], at: usize, a: Answer) -> usize
+fn answered(out: &mut [u8], at: usize, a: Answer, live: u16, work: [u64; 16]) -> usize
     requires { ⌜ at ≤ 1000 ⌝ }
-    ensures { λ r. ⌜ Put (now (out .entry)) at (answerText a) (now (out .exit)) r × (r ≤ at + 1400) ⌝ }
+    ensures { λ r. ⌜ Put (now (out .entry)) at (answerText a live work) (now (out .exit)) r × (r ≤ at + 2720) ⌝ }
 {
     let reply = a.reply;
     if reply.number == 0 {
-        return went(&mut *out, at, a);
+        return went(&mut *out, at, a, live, work);
     }
     if reply.number == 34 {
-        let p = went(&mut *out, at, a);
+        let p = went(&mut *out, at, a, live, work);
         return parts::labelled(&mut *out, p, b" miss ", reply.task as u64);
     }
     refusal(&mut *out, at, reply)
 }
 
 // The line into a lent buffer; its length.
-fn line(out: &mut [u8], clock: u32, releases: u16, a: Answer) -> usize
-    ensures { λ r. ⌜ Put (now (out .entry)) 0 (tickLine clock releases a) (now (out .exit)) r ⌝ }
+fn line(out: &mut [u8], clock: u32, releases: u16, a: Answer, live: u16, work: [u64; 16]) -> usize
+    ensures { λ r. ⌜ Put (now (out .entry)) 0 (tickLine clock releases a live work) (now (out .exit)) r ⌝ }
 {
     let p = parts::labelled(&mut *out, 0, b"tick ", clock as u64);
     let q = named(&mut *out, p, b" release", releases);
-    let r = answered(&mut *out, q, a);
+    let r = answered(&mut *out, q, a, live, work);
     parts::ended(&mut *out, r)
 }
 
-// The line of a tick that began at a clock.
-pub fn tick_line(clock: u32, releases: u16, a: Answer) -> Line
-    ensures { λ r. ⌜ r ≡ lineOf (tickLine clock releases a) ⌝ }
+// The line of a tick that began at a clock; the live tasks and the row of work left are those after it.
+pub fn tick_line(clock: u32, releases: u16, a: Answer, live: u16, work: [u64; 16]) -> Line
+    ensures { λ r. ⌜ r ≡ lineOf (tickLine clock releases a live work) ⌝ }
 {
-    let mut out = [0u8; 512];
-    let len = line(&mut out, clock, releases, a);
+    let mut out = [0u8; 640];
+    let len = line(&mut out, clock, releases, a, live, work);
     Line {
         bytes: out,
         len: len,

@@ -26,6 +26,8 @@ use Rattle.machine.proofs.choosing.ticks_left.Kinds as ticks-left-kinds
 use Rattle.machine.proofs.choosing.ticks_left.Reads as ticks-left-reads
 use Rattle.machine.proofs.choosing.available_sets.Kinds as available-sets-kinds
 use Rattle.machine.proofs.choosing.available_sets.Reads as available-sets-reads
+use Rattle.machine.proofs.showing.live_set.Kinds as live-set-kinds
+use Rattle.machine.proofs.showing.live_set.Reads as live-set-reads
 use Rattle.machine.proofs.ticking.advance_from.Kinds as advance-from-kinds
 use Rattle.machine.proofs.ticking.advance_from.Reads as advance-from-reads
 use Rattle.machine.proofs.ticking.first_beyond.Kinds as first-beyond-kinds
@@ -53,6 +55,10 @@ available-sets-one κs args x y s t = by-definition
 
 pub ticks-left-one : OneResult 0 ticks-left-kinds.ps ticks-left-kinds.r ticks-left-reads.Post
 ticks-left-one κs args x y s t = by-definition
+
+-- the set of live tasks, for the screen
+pub live-set-one : OneResult 0 live-set-kinds.ps live-set-kinds.r live-set-reads.Post
+live-set-one κs args x y s t = by-definition
 
 pub advance-from-one : OneResult 0 advance-from-kinds.ps advance-from-kinds.r advance-from-reads.Post
 advance-from-one κs args x y s t = by-definition

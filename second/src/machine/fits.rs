@@ -1,6 +1,6 @@
 //! Which states fit a table.
 
-use super::{held_back, Job, Phase, State};
+use super::{held_back, summed, Job, Phase, State};
 use crate::table::*;
 
 /// Whether a state fits a table that the reader gave.
@@ -12,7 +12,8 @@ pub fn fits(table: &Table, state: &State) -> bool {
         }
         Phase::Running => {
             let unused = state.tasks[n..].iter().all(|job| *job == Job::ZERO)
-                && state.remaining[ENTRIES * n..].iter().all(|r| *r == 0);
+                && state.remaining[ENTRIES * n..].iter().all(|r| *r == 0)
+                && state.work[n..].iter().all(|work| *work == 0);
             unused && (0..n).all(|i| fits_task(table, state, i))
         }
     }
@@ -21,6 +22,9 @@ pub fn fits(table: &Table, state: &State) -> bool {
 fn fits_task(table: &Table, state: &State, i: usize) -> bool {
     let task = &table.tasks[i];
     let remaining = sixteen(&state.remaining, i);
+    if state.work[i] != summed(remaining) {
+        return false;
+    }
     let (deadline, wait) = match state.tasks[i] {
         Job::Idle { wait } => return wait < task.period && remaining.iter().all(|r| *r == 0),
         Job::Live { deadline, wait } => (deadline, wait),

@@ -2,6 +2,7 @@
 
 use super::Random;
 use crate::flat::{FlatState, FlatTask};
+use crate::machine::summed;
 use crate::table::*;
 
 /// A byte that should be 0 or 1.
@@ -22,7 +23,7 @@ pub fn damaged_flat(r: &mut Random, base: &FlatState, changes: usize) -> FlatSta
         let at = ENTRIES * i + r.below_either(3, ENTRIES);
         let near = r.range(0, 2).wrapping_sub(1);
         let task = &mut flat.tasks[i];
-        match r.below(10) {
+        match r.below(12) {
             0 => flat.clock = r.number(),
             1 => flat.stopped = flag(r),
             2 => flat.at = r.number() as u8,
@@ -32,8 +33,13 @@ pub fn damaged_flat(r: &mut Random, base: &FlatState, changes: usize) -> FlatSta
             6 => task.wait = r.number(),
             7 => task.wait = task.wait.wrapping_add(near),
             8 => flat.remaining[at] = flat.remaining[at].wrapping_add(near),
+            9 => flat.work[i] = flat.work[i].wrapping_add_signed(i64::from(near as i32)),
+            10 => flat.work[i] = r.word() >> r.below(64),
             _ => flat.remaining[at] = r.number(),
         }
+    }
+    if r.coin() {
+        flat.work = std::array::from_fn(|i| summed(sixteen(&flat.remaining, i)));
     }
     flat
 }
@@ -50,5 +56,6 @@ pub fn wild_flat(r: &mut Random) -> FlatState {
             wait: r.number(),
         }),
         remaining: std::array::from_fn(|_| r.number()),
+        work: std::array::from_fn(|_| r.word() >> r.below(64)),
     }
 }

@@ -52,6 +52,7 @@ pub fn fitting(r: &mut Random, table: &Table) -> State {
             wait: task.period - task.deadline + left,
         };
         fill(r, table, i, &mut state);
+        state.work[i] = summed(sixteen(&state.remaining, i));
     }
     state
 }
@@ -75,7 +76,8 @@ fn fill(r: &mut Random, table: &Table, i: usize, state: &mut State) {
     }
 }
 
-/// A state with `changes` fields set to any number.
+/// A state with `changes` fields set to any number; at times with every job's
+/// work made the sum of its remainings again.
 pub fn damaged_state(r: &mut Random, base: &State, changes: usize) -> State {
     let mut state = *base;
     for _ in 0..changes {
@@ -87,7 +89,7 @@ pub fn damaged_state(r: &mut Random, base: &State, changes: usize) -> State {
             Job::Live { deadline, wait } => (deadline, wait),
         };
         let near = r.range(0, 2).wrapping_sub(1);
-        match r.below(10) {
+        match r.below(12) {
             0 => state.clock = state.clock.wrapping_add(near),
             1 => state.phase = Phase::Stopped(r.number() as u8),
             2 => state.phase = Phase::Running,
@@ -103,8 +105,13 @@ pub fn damaged_state(r: &mut Random, base: &State, changes: usize) -> State {
                 state.tasks[i] = Job::Live { deadline, wait };
             }
             8 => state.remaining[at] = state.remaining[at].wrapping_add(near),
+            9 => state.work[i] = state.work[i].wrapping_add_signed(i64::from(near as i32)),
+            10 => state.work[i] = u64::from(r.number()),
             _ => state.remaining[at] = r.number(),
         }
+    }
+    if r.coin() {
+        state.work = std::array::from_fn(|i| summed(sixteen(&state.remaining, i)));
     }
     state
 }

@@ -6,11 +6,17 @@ use Rattle.lines.proofs.showing.show_tick.Tie as tie
 tick-requires : tie.Need-tick-requires
 tick-requires c κs = search needs
 
+live-set-requires : tie.Need-live-set-requires
+live-set-requires c κs = search needs
+
 tick-line-requires : tie.Need-tick-line-requires
 tick-line-requires c κs = search needs
 
 returns : tie.Need-returns
-returns c = tick-shown _ _ _ _ (c .before .before .before .before .tick .result) (c .tick-line .ensures) (c .before .before .before .before .tick .ensures)
+returns c =
+    let s = c .before .before in
+    let t = s .before .before .before .before .tick in
+    tick-shown _ _ _ _ (t .result) _ (c .tick-line .ensures) (s .live-set .ensures) (t .ensures)
 
 pub show-tick-spec : {M : Type 1} → statement M
-show-tick-spec = tie.close (tie.spec tick-requires tick-line-requires returns)
+show-tick-spec = tie.close (tie.spec tick-requires live-set-requires tick-line-requires returns)

@@ -12,7 +12,7 @@ same-length : tie.Need-same-length
 same-length c = search needs
 
 returns : tie.Need-returns
-returns c = (put-same (c .before .before .went .ensures .0) (answer-went _ (c .before .before .before .before .if1 .taken)), search needs)
+returns c = (put-same (c .before .before .went .ensures .0) (answer-went _ _ _ (c .before .before .before .before .if1 .taken)), search needs)
 
 went-requires-2 : tie.Need-went-requires-2
 went-requires-2 c κs = search needs
@@ -34,7 +34,7 @@ unfolding text
 returns-2 c =
     let m = c .before .before in
     let w = m .before .before .before .before .before .before in
-    (put-same (put-then (w .went2 .ensures .0) (m .labelled .ensures .0)) (answer-missed _ (w .before .before .if2 .taken)), search needs)
+    (put-same (put-then (w .went2 .ensures .0) (m .labelled .ensures .0)) (answer-missed _ _ _ (w .before .before .if2 .taken)), search needs)
 
 refusal-requires : tie.Need-refusal-requires
 refusal-requires c κs = search needs
@@ -43,7 +43,7 @@ same-length-3 : tie.Need-same-length-3
 same-length-3 c = search needs
 
 returns-3 : tie.Need-returns-3
-returns-3 c = (put-same (c .before .before .refusal .ensures .0) (answer-refused _ (c .before .before .before .before .before .before .if1 .left) (c .before .before .before .before .if2 .left)), search needs)
+returns-3 c = (put-same (c .before .before .refusal .ensures .0) (answer-refused _ _ _ (c .before .before .before .before .before .before .if1 .left) (c .before .before .before .before .if2 .left)), search needs)
 
 pub answered-spec : {M : Type 1} → statement M
 answered-spec =

@@ -17,7 +17,7 @@ returns : tie.Need-returns
 returns c =
     let s = c .before .before .before in
     let h : Fits w32 (s .args .clock) = search needs in
-    tick-put _ _ _ _ _ (omega arith) (typed-answer (s .args .a) _ (s .good .1 .1 .0)) (c .before .line .ensures)
+    tick-put _ _ _ _ _ _ _ (omega arith) (typed-answer (s .args .a) _ (s .good .1 .1 .0)) (c .before .line .ensures)
 
 pub tick-line-spec : {M : Type 1} → statement M
 tick-line-spec = tie.close (tie.spec slice-aggregate-line line-requires returns)

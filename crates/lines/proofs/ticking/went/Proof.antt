@@ -21,16 +21,20 @@ slice-aggregate-named c = search needs
 named-requires : tie.Need-named-requires
 named-requires c κs = search needs
 
+left-requires : tie.Need-left-requires
+left-requires c κs = search needs
+
 same-length : tie.Need-same-length
 same-length c = search needs
 
 returns : tie.Need-returns
 unfolding wentText text
 returns c =
-    let f = c .before .before in
+    let k = c .before .before in
+    let f = k .before .before .before .before in
     let v = f .before .before .before .before .before in
     let w = v .before .before .before .before .before in
-    let r = put-then (w .words .ensures .0) (put-then (v .vertices .ensures .0) (f .named .ensures .0)) in
+    let r = put-then (w .words .ensures .0) (put-then (v .vertices .ensures .0) (put-then (f .named .ensures .0) (k .left .ensures .0))) in
     (put-same r (simp append-assoc), search needs)
 
 pub went-spec : {M : Type 1} → statement M
@@ -42,5 +46,6 @@ went-spec =
     vertices-requires
     slice-aggregate-named
     named-requires
+    left-requires
     same-length
     returns)
