@@ -33,6 +33,7 @@ struct plain_state {
     uint8_t stopped, at; /* stopped is 0 or 1 */
     struct plain_job tasks[PLAIN_TASKS];
     uint32_t remaining[PLAIN_ROW];
+    uint64_t work[PLAIN_TASKS]; /* the sum of a task's remainings */
 };
 
 struct plain_answer {

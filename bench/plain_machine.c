@@ -10,6 +10,13 @@ static bool zeros(const uint32_t *row, int from, int to) {
     return true;
 }
 
+static uint64_t summed(const uint32_t *row) {
+    uint64_t sum = 0;
+    for (int h = 0; h < PLAIN_VERTICES; h++)
+        sum += row[h];
+    return sum;
+}
+
 struct plain_answer plain_open(const uint8_t *bytes, size_t count, uint32_t clock, struct plain_state *state) {
     struct plain_table table;
     struct plain_answer found = plain_read(bytes, count, &table);
@@ -52,6 +59,8 @@ static bool fits(const struct plain_table *table, const struct plain_state *stat
         const struct plain_task *task = &table->tasks[i];
         const struct plain_job *job = &state->tasks[i];
         const uint32_t *remaining = &state->remaining[PLAIN_VERTICES * i];
+        if (state->work[i] != summed(remaining))
+            return false;
         if (state->stopped || i >= table->n) {
             if (!idle(job, remaining) || job->wait != 0)
                 return false;
@@ -99,6 +108,7 @@ static void release(const struct plain_table *table, struct plain_state *state, 
         state->tasks[i].live = 1;
         state->tasks[i].deadline = state->clock + table->tasks[i].deadline;
         memcpy(&state->remaining[PLAIN_VERTICES * i], &table->costs[PLAIN_VERTICES * i], sizeof(uint32_t) * PLAIN_VERTICES);
+        state->work[i] = summed(&table->costs[PLAIN_VERTICES * i]);
     }
 }
 
@@ -123,6 +133,7 @@ static void run(const struct plain_table *table, struct plain_state *state, stru
                 break;
             ticked->ran[ran++] = (struct plain_ran){order[at], (uint8_t)h};
             remaining[h]--;
+            state->work[order[at]]--;
         }
     }
 }
@@ -138,7 +149,7 @@ static void move_on(const struct plain_table *table, struct plain_state *state, 
             job->wait--;
         if (!job->live)
             continue;
-        if (zeros(&state->remaining[PLAIN_VERTICES * i], 0, table->tasks[i].v)) {
+        if (state->work[i] == 0) {
             job->live = 0;
             job->deadline = 0;
             ticked->finished |= (uint16_t)(1u << i);

@@ -43,6 +43,13 @@ static int runs(void) {
     struct mt_tick_answer early = mt_tick(a, sizeof a, t.state, 2);
     if (early.number != MT_EARLY || early.task != 1 || early.state.clock != 5 || early.state.tasks[1].wait != t.state.tasks[1].wait)
         return failed("task 1 is released too soon");
+    if (t.state.work[0] != 2 || t.state.work[1] != 0)
+        return failed("the work left of table A's tasks is wrong");
+    t.state.work[1] = 1;
+    early = mt_tick(a, sizeof a, t.state, 0);
+    if (early.number != MT_UNFIT || early.task != MT_NO_TASK || early.state.work[1] != 1)
+        return failed("work left of an idle task is not refused");
+    t.state.work[1] = 0;
     t.state.at = 1;
     early = mt_tick(a, sizeof a, t.state, 0);
     if (early.number != MT_UNFIT || early.task != MT_NO_TASK || early.state.at != 1)

@@ -69,6 +69,7 @@ pub struct State {
     pub at: u8,
     pub tasks: [TaskState; ENTRIES],
     pub remaining: [u32; ROW],
+    pub work: [u64; ENTRIES],
 }
 
 /// `struct mt_open_answer`
@@ -212,6 +213,7 @@ impl From<&FlatState> for State {
                 wait: task.wait,
             }),
             remaining: flat.remaining,
+            work: flat.work,
         }
     }
 }
