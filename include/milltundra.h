@@ -106,13 +106,14 @@ struct mt_task_state {
 };
 
 /* A state of the machine: `stopped` is 0 for running or 1, and `at` the task at which it is stopped, 0 while it runs; what remains
-   of each vertex stands at sixteen times task plus vertex. Any numbers may stand in it: one that is no state is MT_UNFIT. */
+   of each vertex stands at sixteen times task plus vertex, and each task's work is the sum of it. Any numbers may stand in it: one that is no state is MT_UNFIT. */
 struct mt_state {
     uint32_t clock;
     uint8_t stopped;
     uint8_t at;
     struct mt_task_state tasks[16];
     uint32_t remaining[256];
+    uint64_t work[16];
 };
 
 /* Opening's number and place are reading's, its task is MT_NO_TASK. */

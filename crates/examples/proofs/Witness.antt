@@ -16,9 +16,9 @@ use Rattle.table.specs.Numbers.{number, place}
 use Rattle.table.specs.Reading.{field, markAt, ranged, byteAt, value4, ticksAt, notUnder, periodAt, edgeOk, edgeAt, costsAt, addEdge, edgesAt, badTask, partsAt, taskAt, putCosts, badTable, withTask, tasksAt, tableAt, refused, ending, read}
 use Rattle.table.specs.Writing.{bytes4}
 use Rattle.verdict.specs.Verdicts.{vol, len, roundedUp, due, margin, naming, verdictOn, unread, verdictRead, verdict}
-use Rattle.machine.specs.States.{idle, activity, isLive, waitOf, deadlineOf, live, wait, deadline, remaining, wrap, ticksLeft, left, zeros, unopened, openRead, opening}
-use Rattle.machine.specs.Fitting.{clear, nothingLeft, zeroTaskIn, withinCost, wholeBehind, fitsLive, fitsIdle, fitsTask, fitsPhase, fits}
-use Rattle.machine.specs.Steps.{released, available, availables, before, insert, ranked, ownChoice, Legal, withWait, worked, finishes, ended, finished, missed}
+use Rattle.machine.specs.States.{idle, activity, isLive, waitOf, deadlineOf, live, wait, deadline, remaining, workOf, wrap, ticksLeft, left, zeros, unopened, openRead, opening}
+use Rattle.machine.specs.Fitting.{clear, nothingLeft, workAgrees, zeroTaskIn, withinCost, wholeBehind, fitsLive, fitsIdle, fitsTask, fitsPhase, fits}
+use Rattle.machine.specs.Steps.{released, available, availables, before, insert, ranked, ownChoice, Legal, withWait, runOf, worked, finishes, ended, finished, missed}
 use Rattle.machine.specs.Ticking.{nobody, pairOf, runList, ticked, judged, advanceTo, advance, refuse, whenRunning, tickOn, tickRead, tickBy, tick}
 use Rattle.graph.specs.Words.{flag}
 use Rattle.graph.proofs.Facts.{past-end, all-at}
@@ -43,7 +43,7 @@ record Computed : Type 0 where
   otherwise : (isIn 16 (ownAt 6) ≡ true) × (isIn 16 (someChoices 6) ≡ false)
 
 computed : Computed
-unfolding bit sum all rowFrom row largest alsoIf those thoseBelow lowest isIn anyOf isNone setOf joinFrom inOrder firstOr lowestOr edge ledTo sweep sweeps acyclicAmong acyclic doneWithin done oneMore longestFrom maximum longest noSucc noCosts zeroTask noTasks noRow noTable noTask task vertices D Memory.T succ edgeIn cost number place field markAt ranged byteAt value4 ticksAt notUnder periodAt edgeOk edgeAt costsAt addEdge edgesAt badTask partsAt taskAt putCosts badTable withTask tasksAt tableAt refused ending read bytes4 vol len roundedUp due margin naming verdictOn unread verdictRead verdict idle activity isLive waitOf deadlineOf live wait deadline remaining wrap ticksLeft left zeros unopened openRead opening clear nothingLeft zeroTaskIn withinCost wholeBehind fitsLive fitsIdle fitsTask fitsPhase fits released available availables before insert ranked ownChoice withWait worked finishes ended finished missed nobody pairOf runList ticked judged advanceTo advance refuse whenRunning tickOn tickRead tickBy tick fileA flag tableOf tickAt stateAt midAt someClock roundReleases roundChoices someReleases someChoices every distinct legalAmong legalTest walk namesTasks apartAt spacedTest
+unfolding bit sum all rowFrom row largest alsoIf those thoseBelow lowest isIn anyOf isNone setOf joinFrom inOrder firstOr lowestOr edge ledTo sweep sweeps acyclicAmong acyclic doneWithin done oneMore longestFrom maximum longest noSucc noCosts zeroTask noTasks noRow noTable noTask task vertices D Memory.T succ edgeIn cost number place field markAt ranged byteAt value4 ticksAt notUnder periodAt edgeOk edgeAt costsAt addEdge edgesAt badTask partsAt taskAt putCosts badTable withTask tasksAt tableAt refused ending read bytes4 vol len roundedUp due margin naming verdictOn unread verdictRead verdict idle activity isLive waitOf deadlineOf live wait deadline remaining workOf wrap ticksLeft left zeros unopened openRead opening clear nothingLeft workAgrees zeroTaskIn withinCost wholeBehind fitsLive fitsIdle fitsTask fitsPhase fits released available availables before insert ranked ownChoice withWait runOf worked finishes ended finished missed nobody pairOf runList ticked judged advanceTo advance refuse whenRunning tickOn tickRead tickBy tick fileA flag tableOf tickAt stateAt midAt someClock roundReleases roundChoices someReleases someChoices every distinct legalAmong legalTest walk namesTasks apartAt spacedTest
 computed = record {
   walks = refl;
   spaced = refl;

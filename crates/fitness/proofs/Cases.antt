@@ -4,15 +4,33 @@ use mathlib.Core.Bool.{Bool, true, false, _&&_, _||_, not, Bool·not-not}
 use mathlib.Core.List.{List}
 use Prim.Native.Nat.{ℕ, _+_, _≤_, _<_, min}
 use native.Mathlib.Omega.{arith}
+use native.Mathlib.Numerals.{add-one}
+use native.Mathlib.Decide.{ℕ-discrete, decLt}
 use lib.Dec.{ltb, leb, eqb}
-use borrow.Author.Tests.{lt-ltb, le-ltb, le-leb, lt-leb, eq-eqb, ne-eqb}
-use Rattle.graph.specs.Words.{flag, pick, bit, all, setOf}
+use borrow.Author.Tests.{lt-ltb, le-ltb, le-leb, lt-leb, eq-eqb, ne-eqb, eqb-true}
+use Rattle.graph.specs.Words.{flag, pick, bit, sum, all, setOf}
 use Rattle.graph.specs.Graph.{edge, heldBack}
+use Rattle.graph.proofs.Facts.{both-true, all-at, all-of, off-when, sum-none, sum-at}
 use Rattle.graph.proofs.Sets.{bit-set}
 use Rattle.graph.proofs.Held.{held-by-set}
 use Rattle.table.specs.declared.Task.{Task}
-use Rattle.fitness.specs.Fitness.{at, nothingLeft, withinCost, used, clear, wholeBehind, liveFits, idleFits, zeroTask, taskFits}
+use Rattle.fitness.specs.Fitness.{at, nothingLeft, workLeft, withinCost, used, clear, wholeBehind, liveFits, idleFits, zeroTask, taskFits}
 use Rattle.fitness.proofs.Behind.{all-same}
+
+-- ---- a sum, as a loop adds it up
+pub sum-next : (n : ℕ) (f : ℕ → ℕ) → sum (n + 1) f ≡ sum n f + f n
+unfolding sum
+sum-next n f = ap (λ (k : ℕ). sum k f) (add-one n)
+
+pub sum-done : (i n x : ℕ) (f : ℕ → ℕ) → i ≡ n → x ≡ sum i f → x ≡ sum n f
+sum-done i n x f e h = h ∙ ap (λ (k : ℕ). sum k f) e
+
+-- it is 0 exactly if each number is
+pub sum-zero : (n : ℕ) (f : ℕ → ℕ) → eqb (sum n f) 0 ≡ all n (λ u. eqb (f u) 0)
+sum-zero n f = elim (ℕ-discrete (sum n f) 0) [
+  | yes e ↦ eq-eqb (sum n f) 0 e ∙ sym (all-of n _ (λ u b. eq-eqb (f u) 0 (omega (arith, sum-at n f u b))))
+  | no d ↦ ne-eqb (sum n f) 0 d ∙ sym (off-when _ (λ h. d (sum-none n f (λ u b. eqb-true (f u) 0 (all-at n _ h u b)))))
+]
 
 -- ---- what remains of a task
 module _ (rest : List ℕ) (i : ℕ) where
@@ -24,19 +42,60 @@ module _ (rest : List ℕ) (i : ℕ) where
   unfolding nothingLeft
   none-left h = rw (lt-leb 16 i h) refl
 
+  -- ---- its work
+  pub work-past : 16 ≤ i → 0 ≡ workLeft rest i
+  unfolding workLeft
+  work-past h = rw (le-ltb i 16 h) refl
+
+  pub work-sum : i < 16 → sum 16 (at rest i) ≡ workLeft rest i
+  unfolding workLeft
+  work-sum h = rw (lt-ltb i 16 h) refl
+
+  -- none is left exactly if nothing remains
+  pub no-work : eqb (workLeft rest i) 0 ≡ nothingLeft rest i
+  no-work = elim (decLt i 16) [
+    | yes b ↦ ap (λ (w : ℕ). eqb w 0) (sym (work-sum b)) ∙ sum-zero 16 (at rest i) ∙ none-left b
+    | no b ↦ let h : 16 ≤ i = omega arith in ap (λ (w : ℕ). eqb w 0) (sym (work-past h)) ∙ none-past h
+  ]
+
 -- ---- a task of zeros
-module _ (live : Bool) (wait : ℕ) (rest : List ℕ) (i : ℕ) where
-  pub zero-live : live ≡ true → false ≡ zeroTask live wait rest i
+module _ (live : Bool) (wait work : ℕ) (rest : List ℕ) (i : ℕ) where
+  pub zero-live : live ≡ true → false ≡ zeroTask live wait work rest i
   unfolding zeroTask
   zero-live e = rw e refl
 
-  pub zero-waits : live ≡ false → (wait ≡ 0 → ⊥) → false ≡ zeroTask live wait rest i
+  pub zero-waits : live ≡ false → (wait ≡ 0 → ⊥) → false ≡ zeroTask live wait work rest i
   unfolding zeroTask
   zero-waits e h = rw (e, ne-eqb wait 0 h) refl
 
-  pub zero-rest : live ≡ false → wait ≡ 0 → nothingLeft rest i ≡ zeroTask live wait rest i
+  pub zero-work : live ≡ false → wait ≡ 0 → (work ≡ 0 → ⊥) → false ≡ zeroTask live wait work rest i
   unfolding zeroTask
-  zero-rest e h = rw (e, eq-eqb wait 0 h) refl
+  zero-work e h d = rw (e, eq-eqb wait 0 h, ne-eqb work 0 d) refl
+
+  pub zero-rest : live ≡ false → wait ≡ 0 → work ≡ 0 → nothingLeft rest i ≡ zeroTask live wait work rest i
+  unfolding zeroTask
+  zero-rest e h q = rw (e, eq-eqb wait 0 h, eq-eqb work 0 q) refl
+
+  -- its work is the sum of what remains: both are 0
+  both-zero : zeroTask live wait work rest i ≡ true → eqb work (workLeft rest i) ≡ true
+  unfolding zeroTask
+  both-zero h =
+      let a = both-true (not live && eqb wait 0 && eqb work 0) (nothingLeft rest i) h in
+      let b = both-true (not live && eqb wait 0) (eqb work 0) (a .0) in
+      let w = eqb-true work 0 (b .1) in
+      let n = eqb-true (workLeft rest i) 0 (no-work rest i ∙ a .1) in
+      eq-eqb work (workLeft rest i) (omega arith)
+
+  pub zero-agrees : zeroTask live wait work rest i ≡ (eqb work (workLeft rest i) && zeroTask live wait work rest i)
+  zero-agrees = go (zeroTask live wait work rest i) refl
+    where
+      falls : (x : Bool) → false ≡ (x && false)
+      falls true = refl
+      falls false = refl
+
+      go : (c : Bool) → zeroTask live wait work rest i ≡ c → c ≡ (eqb work (workLeft rest i) && c)
+      go true h = rw (both-zero h) refl
+      go false h = falls (eqb work (workLeft rest i))
 
 -- ---- a live task: a clause fails, or all hold but the last, which decides
 module _ (a : Task) (costs : List ℕ) (left wait : ℕ) (rest : List ℕ) (i : ℕ) where
@@ -95,15 +154,23 @@ whole-behind a costs rest i v unfinished behind e o h =
         ∙ Bool·not-not _
 
 -- ---- a task, used or not
-module _ (n : ℕ) (a : Task) (costs : List ℕ) (live : Bool) (left wait : ℕ) (rest : List ℕ) (i : ℕ) where
-  pub task-unused : n ≤ i → zeroTask live wait rest i ≡ taskFits n a costs live left wait rest i
+module _ (n : ℕ) (a : Task) (costs : List ℕ) (live : Bool) (left wait work : ℕ) (rest : List ℕ) (i : ℕ) where
+  pub task-unused : n ≤ i → zeroTask live wait work rest i ≡ taskFits n a costs live left wait work rest i
   unfolding taskFits
-  task-unused h = rw (le-ltb i n h) refl
+  task-unused h = zero-agrees live wait work rest i ∙ rw (le-ltb i n h) refl
 
-  pub task-idle : i < n → live ≡ false → idleFits (a .t) wait rest i ≡ taskFits n a costs live left wait rest i
+  -- another number is stored
+  pub task-differs : (work ≡ workLeft rest i → ⊥) → false ≡ taskFits n a costs live left wait work rest i
   unfolding taskFits
-  task-idle h e = rw (lt-ltb i n h, e) refl
+  task-differs d = rw (ne-eqb work (workLeft rest i) d) refl
 
-  pub task-live : i < n → live ≡ true → liveFits a costs left wait rest i ≡ taskFits n a costs live left wait rest i
-  unfolding taskFits
-  task-live h e = rw (lt-ltb i n h, e) refl
+  module _ (h : i < n) (w : work ≡ workLeft rest i) where
+    pub task-idle : live ≡ false → (eqb work 0 && ltb wait (a .t)) ≡ taskFits n a costs live left wait work rest i
+    unfolding taskFits idleFits
+    task-idle e =
+        ap (λ (x : Bool). x && ltb wait (a .t)) (ap (λ (x : ℕ). eqb x 0) w ∙ no-work rest i)
+        ∙ rw (eq-eqb work (workLeft rest i) w, lt-ltb i n h, e) refl
+
+    pub task-live : live ≡ true → liveFits a costs left wait rest i ≡ taskFits n a costs live left wait work rest i
+    unfolding taskFits
+    task-live e = rw (eq-eqb work (workLeft rest i) w, lt-ltb i n h, e) refl

@@ -1,11 +1,11 @@
--- Which numbers of a task fit: document 01, "A running state fits if ..", with document 02's M-103, over the rows of 256 numbers and a
+-- Which numbers of a task fit: document 01, "A running state fits if ..", with document 02's M-103 and M-104, over the rows of 256 numbers and a
 -- task's entry, any numbers in them. That the machine's rules say the same of a good table's task is in crate machine, proofs/Fits.
 use mathlib.Core.Bool.{Bool, _&&_, _||_, not}
 use mathlib.Core.List.{List}
 use Prim.Native.Nat.{ℕ, _+_, _*_, min}
 use lib.ListN.{getD}
 use lib.Dec.{ltb, leb, eqb}
-use Rattle.graph.specs.Words.{pick, all}
+use Rattle.graph.specs.Words.{pick, sum, all}
 use Rattle.graph.specs.Graph.{edge, done}
 use Rattle.table.specs.declared.Task.{Task}
 
@@ -16,6 +16,10 @@ at row i u = getD row (16 * i + u) 0
 -- nothing remains of task i: there are sixteen, and of any other nothing does
 unfoldable pub nothingLeft : List ℕ → ℕ → Bool
 nothingLeft rest i = leb 16 i || all 16 (λ u. eqb (at rest i u) 0)
+
+-- "each job's remaining work", "the sum of its vertices' remainings" (document 02, M-104)
+unfoldable pub workLeft : List ℕ → ℕ → ℕ
+workLeft rest i = pick (ltb i 16) (sum 16 (at rest i)) 0
 
 -- something remains of vertex u of task i
 unfoldable pub somethingLeft : List ℕ → ℕ → ℕ → Bool
@@ -52,10 +56,12 @@ unfoldable pub idleFits : ℕ → ℕ → List ℕ → ℕ → Bool
 idleFits period wait rest i = nothingLeft rest i && ltb wait period
 
 -- "unused entries are zero (a task of zeros is idle with wait 0)"
-unfoldable pub zeroTask : Bool → ℕ → List ℕ → ℕ → Bool
-zeroTask live wait rest i = not live && eqb wait 0 && nothingLeft rest i
+unfoldable pub zeroTask : Bool → ℕ → ℕ → List ℕ → ℕ → Bool
+zeroTask live wait work rest i = not live && eqb wait 0 && eqb work 0 && nothingLeft rest i
 
--- tasks below n are used, live or idle; those from n on are not
-unfoldable pub taskFits : ℕ → Task → List ℕ → Bool → ℕ → ℕ → List ℕ → ℕ → Bool
-taskFits n a costs live left wait rest i =
-    pick (ltb i n) (pick live (liveFits a costs left wait rest i) (idleFits (a .t) wait rest i)) (zeroTask live wait rest i)
+-- tasks below n are used, live or idle; those from n on are not. "30 also when a stored number differs" (document 02, M-104): the stored
+-- work of each is the sum of what remains
+unfoldable pub taskFits : ℕ → Task → List ℕ → Bool → ℕ → ℕ → ℕ → List ℕ → ℕ → Bool
+taskFits n a costs live left wait work rest i =
+    eqb work (workLeft rest i)
+    && pick (ltb i n) (pick live (liveFits a costs left wait rest i) (idleFits (a .t) wait rest i)) (zeroTask live wait work rest i)

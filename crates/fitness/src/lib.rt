@@ -1,10 +1,10 @@
 // Which numbers of a task fit, clause by clause. The rules are in specs/Fitness.antt.
 ghost use mathlib.Core.Path.{_≡_};
-ghost use mathlib.Core.Bool.{_||_, not};
+ghost use mathlib.Core.Bool.{_&&_, _||_, not};
 ghost use Prim.Native.Nat.{ℕ, _≤_, _<_, min};
-ghost use lib.Dec.{eqb};
+ghost use lib.Dec.{ltb, eqb};
 ghost use Rattle.graph.specs.Words.{bit, all, setOf};
-ghost use Rattle.fitness.specs.Fitness.{at, nothingLeft, somethingLeft, withinCost, liveFits, idleFits, zeroTask, taskFits};
+ghost use Rattle.fitness.specs.Fitness.{at, nothingLeft, workLeft, somethingLeft, withinCost, liveFits, zeroTask, taskFits};
 use table::Task;
 
 // Whether nothing remains of task i: its sixteen numbers or-ed together, with no branch in between.
@@ -19,6 +19,27 @@ pub fn nothing_left(remaining: &[u32; 256], i: usize) -> bool
         any |= remaining[16 * i + u];
     }
     any == 0
+}
+
+// What remains of a vertex, in 64 bits.
+fn wide(x: u32) -> u64
+    ensures { λ r. ⌜ (r ≡ x) × (r < 4294967296) ⌝ }
+{
+    x as u64
+}
+
+// What remains of task i: its sixteen numbers added up.
+pub fn work_left(remaining: &[u32; 256], i: usize) -> u64
+    ensures { λ r. ⌜ r ≡ workLeft (now (remaining .entry)) i ⌝ }
+{
+    if i >= 16 {
+        return 0;
+    }
+    let mut work: u64 = 0;
+    for u in 0..16usize {
+        work += wide(remaining[16 * i + u]);
+    }
+    work
 }
 
 // The vertices of task i of which something remains.
@@ -37,14 +58,17 @@ pub fn unfinished(remaining: &[u32; 256], i: usize) -> u16
     set
 }
 
-// A task of zeros: not live, no wait, and nothing remains.
-pub fn zero_task(live: bool, wait: u32, remaining: &[u32; 256], i: usize) -> bool
-    ensures { λ r. ⌜ r ≡ zeroTask live wait (now (remaining .entry)) i ⌝ }
+// A task of zeros: not live, no wait, no work stored, and nothing remains.
+pub fn zero_task(live: bool, wait: u32, work: u64, remaining: &[u32; 256], i: usize) -> bool
+    ensures { λ r. ⌜ r ≡ zeroTask live wait work (now (remaining .entry)) i ⌝ }
 {
     if live {
         return false;
     }
     if wait != 0 {
+        return false;
+    }
+    if work != 0 {
         return false;
     }
     nothing_left(remaining, i)
@@ -88,16 +112,17 @@ fn whole_in(set: u16, v: usize, costs: &[u32; 256], remaining: &[u32; 256], i: u
     true
 }
 
-// A live task with these ticks left and this wait.
+// A live task with these ticks left, this wait and this work, the sum of what remains.
 fn fits_live(
     a: Task,
     costs: &[u32; 256],
     ticks: u32,
     waits: u32,
+    work: u64,
     remaining: &[u32; 256],
     i: usize,
 ) -> bool
-    requires { ⌜ i < 16 ⌝ }
+    requires { ⌜ (i < 16) × (work ≡ workLeft (now remaining) i) ⌝ }
     ensures { λ r. ⌜ r ≡ liveFits a (now (costs .entry)) ticks waits (now (remaining .entry)) i ⌝ }
 {
     if ticks < 1 {
@@ -112,7 +137,7 @@ fn fits_live(
     if !within_cost(costs, remaining, i) {
         return false;
     }
-    if nothing_left(remaining, i) {
+    if work == 0 {
         return false;
     }
     let v = used(a.v);
@@ -121,17 +146,17 @@ fn fits_live(
     whole_in(behind, v, costs, remaining, i)
 }
 
-// An idle task: nothing remains, and its wait is below its period.
-fn fits_idle(period: u32, waits: u32, remaining: &[u32; 256], i: usize) -> bool
-    ensures { λ r. ⌜ r ≡ idleFits period waits (now (remaining .entry)) i ⌝ }
+// An idle task: there is no work, and its wait is below its period.
+fn fits_idle(period: u32, waits: u32, work: u64) -> bool
+    ensures { λ r. ⌜ r ≡ (eqb work 0 && ltb waits period) ⌝ }
 {
-    if !nothing_left(remaining, i) {
+    if work != 0 {
         return false;
     }
     waits < period
 }
 
-// Task i of n tasks: live, idle or not used.
+// Task i of n tasks: live, idle or not used. Its stored work is the sum of what remains.
 pub fn fits_task(
     n: usize,
     a: Task,
@@ -139,19 +164,23 @@ pub fn fits_task(
     live: bool,
     ticks: u32,
     waits: u32,
+    work: u64,
     remaining: &[u32; 256],
     i: usize,
 ) -> bool
-    ensures { λ r. ⌜ r ≡ taskFits n a (now (costs .entry)) live ticks waits (now (remaining .entry)) i ⌝ }
+    ensures { λ r. ⌜ r ≡ taskFits n a (now (costs .entry)) live ticks waits work (now (remaining .entry)) i ⌝ }
 {
     if n <= i {
-        return zero_task(live, waits, remaining, i);
+        return zero_task(live, waits, work, remaining, i);
+    }
+    if work != work_left(remaining, i) {
+        return false;
     }
     if !live {
-        return fits_idle(a.t, waits, remaining, i);
+        return fits_idle(a.t, waits, work);
     }
     if i >= 16 {
         return false;
     }
-    fits_live(a, costs, ticks, waits, remaining, i)
+    fits_live(a, costs, ticks, waits, work, remaining, i)
 }

@@ -1,5 +1,5 @@
 -- The clock does not matter: from idle machines at two clocks the same runs are legal, with the same answers.
-use mathlib.Core.Path.{_≡_, refl, sym, ap, subst, _∙_}
+use mathlib.Core.Path.{_≡_, refl, sym, ap, ap₂, subst, _∙_}
 use mathlib.Core.Logic.{inl, inr, ⊎-elim}
 use mathlib.Core.Bool.{Bool, true, false, _&&_, _||_, not}
 use mathlib.Core.List.{List, [], _∷_}
@@ -8,13 +8,13 @@ use native.Mathlib.Omega.{arith}
 use native.Mathlib.Decide.{decLt}
 use lib.ListN.{length, getD}
 use lib.Dec.{ltb, eqb}
-use Rattle.graph.specs.Words.{pick, bit, all, row, thoseBelow, isIn, firstOr, lowestOr}
+use Rattle.graph.specs.Words.{flag, pick, bit, sum, all, row, thoseBelow, isIn, firstOr, lowestOr}
 use Rattle.graph.specs.Graph.{done}
 use Rattle.graph.proofs.Facts.{clash, both-true, below-pass}
 use Rattle.graph.proofs.Members.{below-same}
 use Rattle.table.specs.declared.Table.{Table}
 use Rattle.table.specs.declared.Outcome.the-variants.{Read}
-use Rattle.table.specs.Memory.{vertices, edgeIn, T}
+use Rattle.table.specs.Memory.{vertices, edgeIn, T, cost}
 use Rattle.table.specs.Reading.{read}
 use Rattle.table.specs.Good.{GoodTable}
 use Rattle.table.proofs.Sound.{read-good}
@@ -22,8 +22,8 @@ use Rattle.machine.specs.declared.Phase.{Phase}
 use Rattle.machine.specs.declared.Phase.the-variants.{Stopped}
 use Rattle.machine.specs.declared.State.{State}
 use Rattle.machine.specs.declared.Ticked.{Ticked}
-use Rattle.machine.specs.States.{live, wait, deadline, remaining, left, zeros}
-use Rattle.machine.specs.Steps.{released, clear, available, availables, worked, nothingLeft, finishes, ended, missed, Legal}
+use Rattle.machine.specs.States.{live, wait, deadline, remaining, workOf, left, zeros}
+use Rattle.machine.specs.Steps.{released, clear, available, availables, runOf, worked, finishes, ended, missed, Legal}
 use Rattle.machine.specs.Fitting.{fits}
 use Rattle.machine.specs.Ticking.{ticked, judged, advanceTo, advance}
 use Rattle.machine.proofs.Index.{not-missed, in-time, wrap-small, released-live, released-wait, worked-live, ended-live, zeros-live, zeros-wait}
@@ -39,6 +39,7 @@ use Rattle.journal.proofs.Ticks.{named-tasks, named-free, admitted-tick
 pub record Alike (a b : State) : Type 0 where
   pub phase : a .phase ≡ b .phase
   pub rest : a .remaining ≡ b .remaining
+  pub work : a .work ≡ b .work
   pub lives : (i : ℕ) → i < 16 → live a i ≡ live b i
   pub waits : (i : ℕ) → i < 16 → wait a i ≡ wait b i
   pub ticks : (i : ℕ) → i < 16 → live a i ≡ true → left a i ≡ left b i
@@ -47,6 +48,7 @@ other-way : (a b : State) → Alike a b → Alike b a
 other-way a b s = record {
   phase = sym (s .phase);
   rest = sym (s .rest);
+  work = sym (s .work);
   lives = λ i h. sym (s .lives i h);
   waits = λ i h. sym (s .waits i h);
   ticks = λ i h e. sym (s .ticks i h (s .lives i h ∙ e));
@@ -58,6 +60,7 @@ unfolding zeros
 zeros-alike c d p = record {
   phase = refl;
   rest = refl;
+  work = refl;
   lives = λ i h. zeros-live c p i ∙ sym (zeros-live d p i);
   waits = λ i h. zeros-wait c p i ∙ sym (zeros-wait d p i);
   ticks = λ i h e. absurd (clash e (zeros-live c p i));
@@ -113,12 +116,12 @@ module _ (t : Table) (a b : State) (same : Alike a b) where
         omega arith;
   }
 
-same-ended : (a b : State) → a .remaining ≡ b .remaining → (i : ℕ) → i < 16 → live a i ≡ live b i → live (ended a) i ≡ live (ended b) i
-unfolding finishes nothingLeft remaining
-same-ended a b r i h e =
+same-ended : (a b : State) → a .work ≡ b .work → (i : ℕ) → i < 16 → live a i ≡ live b i → live (ended a) i ≡ live (ended b) i
+unfolding finishes workOf
+same-ended a b w i h e =
     ended-live a i h
-    ∙ ap (λ (l : List ℕ). pick (live a i && all 16 (λ u. eqb (getD l (16 * i + u) 0) 0)) false (live a i)) r
-    ∙ ap (λ (c : Bool). pick (c && all 16 (λ u. eqb (getD (b .remaining) (16 * i + u) 0) 0)) false c) e
+    ∙ ap (λ (l : List ℕ). pick (live a i && eqb (getD l i 0) 0) false (live a i)) w
+    ∙ ap (λ (c : Bool). pick (c && eqb (getD (b .work) i 0) 0) false c) e
     ∙ sym (ended-live b i h)
 
 -- ---- one tick
@@ -132,10 +135,11 @@ module _ (t : Table) (good : GoodTable t) (named : ℕ) (tasks : (i : ℕ) → b
   mb = mid t good b sb named tasks fb
 
   mid-alike : Alike ma mb
-  unfolding mid released
+  unfolding mid released workOf
   mid-alike = record {
     phase = same .phase;
     rest = ap (λ (l : List ℕ). row 256 (λ k. pick (bit named (k / 16)) (getD (t .costs) k 0) (getD l k 0))) (same .rest);
+    work = ap (λ (l : List ℕ). row 16 (λ i. pick (bit named i) (sum 16 (cost t i)) (getD l i 0))) (same .work);
     lives = λ i h. released-live t a named i h ∙ ap (λ (c : Bool). pick (bit named i) true c) (same .lives i h) ∙ sym (released-live t b named i h);
     waits = λ i h. released-wait t a named i h ∙ same .waits i h ∙ sym (released-wait t b named i h);
     ticks = λ i h e. ticks-by (bit named i) i refl h e;
@@ -170,10 +174,11 @@ module _ (t : Table) (good : GoodTable t) (named : ℕ) (tasks : (i : ℕ) → b
     nb = next t good b sb named tasks fb chosen ob
 
     next-alike : Alike na nb
-    unfolding next worked ended
+    unfolding next worked ended workOf runOf remaining
     next-alike = record {
       phase = mid-alike .phase;
       rest = rest;
+      work = work;
       lives = lives;
       waits = λ i h.
           next-wait t good a sa named tasks fa chosen oa i h
@@ -191,8 +196,11 @@ module _ (t : Table) (good : GoodTable t) (named : ℕ) (tasks : (i : ℕ) → b
             ≡ row 256 (λ k. pick (isIn k chosen) (getD (mb .remaining) k 0 - 1) (getD (mb .remaining) k 0))
         rest = ap (λ (l : List ℕ). row 256 (λ k. pick (isIn k chosen) (getD l k 0 - 1) (getD l k 0))) (mid-alike .rest)
 
+        work : row 16 (λ i. workOf ma i - runOf ma i chosen) ≡ row 16 (λ i. workOf mb i - runOf mb i chosen)
+        work = ap₂ (λ (w r : List ℕ). row 16 (λ i. getD w i 0 - sum 16 (λ u. flag (isIn (16 * i + u) chosen && ltb 0 (getD r (16 * i + u) 0))))) (mid-alike .work) (mid-alike .rest)
+
         lives : (i : ℕ) → i < 16 → live na i ≡ live nb i
-        lives i h = same-ended (worked t ma named chosen) (worked t mb named chosen) rest i h
+        lives i h = same-ended (worked t ma named chosen) (worked t mb named chosen) work i h
             (worked-live t ma named chosen i h ∙ mid-alike .lives i h ∙ sym (worked-live t mb named chosen i h))
 
     clock-small : (na .clock < 2 ^ 32) × (nb .clock < 2 ^ 32)

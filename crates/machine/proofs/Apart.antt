@@ -15,9 +15,11 @@ use Rattle.graph.proofs.Facts.{clash, sum-same, length-row, row-at, past-end, l
 use Rattle.graph.proofs.Bits.{bit-or}
 use Rattle.graph.proofs.Members.{below-same, bit-without}
 use Rattle.table.specs.declared.Table.{Table}
-use Rattle.table.specs.Memory.{D, T}
+use Rattle.table.specs.Memory.{D, T, cost}
 use Rattle.table.specs.Good.{GoodTable}
+use Rattle.fitness.specs.Fitness.{workLeft}
 use Rattle.fitness.proofs.Behind.{all-same}
+use Rattle.fitness.proofs.Cases.{work-sum}
 use Rattle.machine.specs.declared.Phase.{Phase}
 use Rattle.machine.specs.declared.Phase.the-variants.{Running, Stopped}
 use Rattle.machine.specs.declared.Activity.{Activity}
@@ -26,10 +28,10 @@ use Rattle.machine.specs.declared.State.{State}
 use Rattle.machine.specs.declared.TaskState.{TaskState}
 use Rattle.machine.specs.declared.Reply.{Reply}
 use Rattle.machine.specs.declared.Ticked.{Ticked}
-use Rattle.machine.specs.States.{idle, activity, isLive, waitOf, deadlineOf, live, wait, deadline, remaining, wrap, ticksLeft, left, zeros}
-use Rattle.machine.specs.Steps.{available, availableSets, ownChoice, released, worked, nothingLeft, finishes, ended, finished, missed}
+use Rattle.machine.specs.States.{idle, activity, isLive, waitOf, deadlineOf, live, wait, deadline, remaining, workOf, wrap, ticksLeft, left, zeros}
+use Rattle.machine.specs.Steps.{available, availableSets, ownChoice, released, runOf, worked, finishes, ended, finished, missed}
 use Rattle.machine.specs.Fitting.{zeroTaskIn, fitsTask, fitsPhase, fits}
-use Rattle.machine.specs.Choosing.{fitsBy, replyOf, refusalIn, refusalOf}
+use Rattle.machine.specs.Choosing.{runIn, fitsBy, replyOf, refusalIn, refusalOf}
 use Rattle.machine.specs.Ticking.{ticked, refuse, tickOn}
 use Rattle.machine.proofs.Index.{released-live, released-wait, released-deadline, worked-live, worked-wait, worked-deadline, ended-live, ended-wait, ended-deadline}
 use Rattle.machine.proofs.Clauses.{unused-task}
@@ -51,6 +53,17 @@ set-ext n p q h = sum-same n _ _ (λ k b. ap (λ (c : Bool). pick c (2 ^ k) 0) (
 lowest-ext : (d n : ℕ) (p q : ℕ → Bool) → ((k : ℕ) → k < n → p k ≡ q k) → lowest d n p ≡ lowest d n q
 unfolding lowest
 lowest-ext d n p q h = ap (λ (l : List ℕ). getD l 0 d) (below-same n p q h)
+
+-- ---- the work after step 1, and after step 4
+pub mid-work : (t : Table) (st : State) (named : ℕ) (work : List ℕ) → work ≡ row 16 (λ i. pick (bit named i) (workLeft (t .costs) i) (getD (st .work) i 0))
+    → work ≡ released t st named .work
+unfolding released workOf cost
+mid-work t st named work e = e ∙ row-ext 16 0 _ _ (λ i b. ap (λ (w : ℕ). pick (bit named i) w (getD (st .work) i 0)) (sym (work-sum (t .costs) i b)))
+
+pub off-work : (t : Table) (st : State) (named : ℕ) (chosen before work rest : List ℕ) → before ≡ released t st named .work → rest ≡ released t st named .remaining
+    → work ≡ row 16 (λ i. getD before i 0 - runIn chosen rest i) → work ≡ worked t (released t st named) named chosen .work
+unfolding worked workOf runOf runIn remaining
+off-work t st named chosen before work rest w q e = e ∙ ap₂ (λ (ws rs : List ℕ). row 16 (λ i. getD ws i 0 - runIn chosen rs i)) w q
 
 -- ---- the refusals one after the other, as the code tells them
 module _ (fit : Bool) (p : Phase) (named n : ℕ) (waits : List ℕ) where
@@ -108,11 +121,11 @@ module _ (t : Table) (good : GoodTable t) (st : State) (in-it : ℕ) (deadlines 
   left-at ticks e i b = ap (λ (l : List ℕ). getD l i 0) (e ∙ left-by) ∙ row-at 16 (left st) i 0 b
 
   -- WHICH STATES FIT, by the rows
-  pub fits-by : (ticks : List ℕ) → ticks ≡ row 16 leftBy → fitsBy (st .phase) t (t .costs) in-it ticks waits (st .remaining) ≡ fits t st
-  unfolding fits fitsPhase fitsBy
+  pub fits-by : (ticks : List ℕ) → ticks ≡ row 16 leftBy → fitsBy (st .phase) t (t .costs) in-it ticks waits (st .work) (st .remaining) ≡ fits t st
+  unfolding fits fitsPhase fitsBy workOf
   fits-by ticks e = go (st .phase)
     where
-      go : (p : Phase) → fitsBy p t (t .costs) in-it ticks waits (st .remaining) ≡ fitsPhase p t st
+      go : (p : Phase) → fitsBy p t (t .costs) in-it ticks waits (st .work) (st .remaining) ≡ fitsPhase p t st
       go Running = all-same 16 _ _ (λ i b. rw (a .lives i b, left-at ticks e i b, a .rests i b) (same-rules t st good i b))
       go (Stopped k) = ap (λ (c : Bool). ltb k (t .n) && c) (all-same 16 _ _ (λ i b. rw (a .lives i b, a .rests i b) (zero-same st i b)))
 
@@ -201,8 +214,8 @@ module _ (t : Table) (good : GoodTable t) (st : State) (in-it : ℕ) (deadlines 
         idle-there i b l = ap (λ (c : Bool). pick c true (live st i)) (unnamed i b l) ∙ unused-task t st (ok .fitting) (ok .running) i b l .idles
 
     -- ---- STEPS 4, 5 AND 6
-    module _ (chosen rest : List ℕ) (run : rest ≡ worked t mid named chosen .remaining) (done : ℕ)
-        (ds : done ≡ setOf 16 (λ i. bit begun i && all 16 (λ u. eqb (getD rest (16 * i + u) 0) 0))) where
+    module _ (chosen rest work : List ℕ) (run : rest ≡ worked t mid named chosen .remaining) (off : work ≡ worked t mid named chosen .work) (done : ℕ)
+        (ds : done ≡ setOf 16 (λ i. bit begun i && eqb (getD work i 0) 0)) where
       abbrev after : State
       after = worked t mid named chosen
 
@@ -210,10 +223,10 @@ module _ (t : Table) (good : GoodTable t) (st : State) (in-it : ℕ) (deadlines 
       after-live i b = begun-at i b ∙ sym (worked-live t mid named chosen i b)
 
       pub done-is : done ≡ finished after
-      unfolding finished finishes nothingLeft remaining
+      unfolding finished finishes workOf
       done-is = ds ∙ set-ext 16 _ _ (λ i b.
-          ap (λ (c : Bool). c && all 16 (λ u. eqb (getD rest (16 * i + u) 0) 0)) (after-live i b)
-          ∙ ap (λ (l : List ℕ). live after i && all 16 (λ u. eqb (getD l (16 * i + u) 0) 0)) run)
+          ap (λ (c : Bool). c && eqb (getD work i 0) 0) (after-live i b)
+          ∙ ap (λ (l : List ℕ). live after i && eqb (getD l i 0) 0) off)
 
       small : done < 2 ^ 16
       unfolding finished
@@ -298,14 +311,15 @@ module _ (t : Table) (good : GoodTable t) (st : State) (in-it : ℕ) (deadlines 
       -- THE STATE PUT TOGETHER
       pub after-is : (next : ℕ) (tasks : List TaskState) → next ≡ wrap (st .clock + 1)
           → tasks ≡ row 16 (λ i. record { activity = pick (bit going i) (Live (getD deadlines′ i 0) (getD waits′ i 0 - 1)) (Idle (getD waits′ i 0 - 1)) })
-          → st .phase ≡ Running → record { clock = next; phase = Running; tasks = tasks; remaining = rest } ≡ ended after
+          → st .phase ≡ Running → record { clock = next; phase = Running; tasks = tasks; remaining = rest; work = work } ≡ ended after
       unfolding ended worked released
       after-is next tasks e q r =
-          ap₂ (λ (k : ℕ) (p : Phase). record { clock = k; phase = p; tasks = tasks; remaining = rest }) e (sym r)
-          ∙ ap₂ (λ (ts : List TaskState) (rs : List ℕ). record { clock = wrap (st .clock + 1); phase = st .phase; tasks = ts; remaining = rs }) (q ∙ tasks-are) run
+          ap₂ (λ (k : ℕ) (p : Phase). record { clock = k; phase = p; tasks = tasks; remaining = rest; work = work }) e (sym r)
+          ∙ ap₂ (λ (ts : List TaskState) (rs : List ℕ). record { clock = wrap (st .clock + 1); phase = st .phase; tasks = ts; remaining = rs; work = work }) (q ∙ tasks-are) run
+          ∙ ap (λ (ws : List ℕ). record { clock = wrap (st .clock + 1); phase = st .phase; tasks = ended after .tasks; remaining = after .remaining; work = ws }) off
           ∙ same
         where
-          same : record { clock = wrap (st .clock + 1); phase = st .phase; tasks = ended after .tasks; remaining = after .remaining } ≡ ended after
+          same : record { clock = wrap (st .clock + 1); phase = st .phase; tasks = ended after .tasks; remaining = after .remaining; work = after .work } ≡ ended after
           same = refl
 
       -- THE TICK, its rows made

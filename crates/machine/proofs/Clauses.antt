@@ -6,16 +6,16 @@ use native.Mathlib.Omega.{arith}
 use native.Mathlib.Decide.{decLt}
 use lib.Dec.{ltb, leb, eqb}
 use borrow.Author.Tests.{lt-ltb, le-ltb, le-leb, eq-eqb, ltb-true, leb-true, eqb-true, not-true}
-use Rattle.graph.specs.Words.{pick, all}
+use Rattle.graph.specs.Words.{pick, sum, all}
 use Rattle.graph.proofs.Facts.{clash, both-true, and-true, all-at, all-of}
 use Rattle.table.specs.declared.Table.{Table}
 use Rattle.table.specs.Memory.{vertices, D, T, cost}
 use Rattle.machine.specs.declared.Phase.{Phase}
 use Rattle.machine.specs.declared.Phase.the-variants.{Running, Stopped}
 use Rattle.machine.specs.declared.State.{State}
-use Rattle.machine.specs.States.{live, wait, remaining, left}
+use Rattle.machine.specs.States.{live, wait, remaining, workOf, left}
 use Rattle.machine.specs.Steps.{clear, nothingLeft}
-use Rattle.machine.specs.Fitting.{zeroTaskIn, withinCost, wholeBehind, fitsLive, fitsIdle, fitsTask, fitsPhase, fits}
+use Rattle.machine.specs.Fitting.{workAgrees, zeroTaskIn, withinCost, wholeBehind, fitsLive, fitsIdle, fitsTask, fitsPhase, fits}
 
 -- "each live task has ticks left from 1 to D minus 1, wait equal to T minus D plus ticks left, no remaining above its cost, some
 -- remaining above 0", and "a vertex with a predecessor not done still has its whole cost"
@@ -37,6 +37,7 @@ pub record IdleFits (t : Table) (st : State) (i : ℕ) : Type 0 where
 pub record ZeroTask (st : State) (i : ℕ) : Type 0 where
   pub idles : live st i ≡ false
   pub no-wait : wait st i ≡ 0
+  pub no-work : workOf st i ≡ 0
   pub none : nothingLeft st i ≡ true
 
 either : (a b : Bool) → a || b ≡ true → a ≡ false → b ≡ true
@@ -83,9 +84,10 @@ module _ (t : Table) (st : State) (i : ℕ) where
   zero-task : zeroTaskIn st i ≡ true → ZeroTask st i
   unfolding zeroTaskIn
   zero-task h =
-      let a = both-true (not (live st i) && eqb (wait st i) 0) (nothingLeft st i) h in
-      let b = both-true (not (live st i)) (eqb (wait st i) 0) (a .0) in
-      record { idles = not-true (live st i) (b .0); no-wait = eqb-true (wait st i) 0 (b .1); none = a .1 }
+      let a = both-true (not (live st i) && eqb (wait st i) 0 && eqb (workOf st i) 0) (nothingLeft st i) h in
+      let w = both-true (not (live st i) && eqb (wait st i) 0) (eqb (workOf st i) 0) (a .0) in
+      let b = both-true (not (live st i)) (eqb (wait st i) 0) (w .0) in
+      record { idles = not-true (live st i) (b .0); no-wait = eqb-true (wait st i) 0 (b .1); no-work = eqb-true (workOf st i) 0 (w .1); none = a .1 }
 
 -- ---- and the reverse
 module _ (t : Table) (st : State) (i : ℕ) where
@@ -122,7 +124,7 @@ module _ (t : Table) (st : State) (i : ℕ) where
 
   pub of-zero : ZeroTask st i → zeroTaskIn st i ≡ true
   unfolding zeroTaskIn
-  of-zero f = and-true _ _ (and-true _ _ (flip (f .idles)) (eq-eqb (wait st i) 0 (f .no-wait))) (f .none)
+  of-zero f = and-true _ _ (and-true _ _ (and-true _ _ (flip (f .idles)) (eq-eqb (wait st i) 0 (f .no-wait))) (eq-eqb (workOf st i) 0 (f .no-work))) (f .none)
 
 -- EACH TASK OF A STATE THAT FITS: a running one, live or idle or not used; a stopped one
 module _ (t : Table) (st : State) (fitting : fits t st ≡ true) where
@@ -131,17 +133,23 @@ module _ (t : Table) (st : State) (fitting : fits t st ≡ true) where
     unfolding fits fitsPhase
     its-fits = all-at 16 (fitsTask t st) (sym (ap (λ (p : Phase). fitsPhase p t st) running) ∙ fitting) i sixteen
 
-    pub live-task : i < t .n → live st i ≡ true → LiveFits t st i
+    its-clauses : (workAgrees st i ≡ true) × (pick (ltb i (t .n)) (pick (live st i) (fitsLive t st i) (fitsIdle t st i)) (zeroTaskIn st i) ≡ true)
     unfolding fitsTask
-    live-task b e = live-fits t st i (rw (lt-ltb i (t .n) b, e) at its-fits)
+    its-clauses = both-true (workAgrees st i) _ its-fits
+
+    -- used or not
+    pub task-work : workOf st i ≡ sum 16 (remaining st i)
+    unfolding workAgrees
+    task-work = eqb-true (workOf st i) (sum 16 (remaining st i)) (its-clauses .0)
+
+    pub live-task : i < t .n → live st i ≡ true → LiveFits t st i
+    live-task b e = live-fits t st i (rw (lt-ltb i (t .n) b, e) at its-clauses .1)
 
     pub idle-task : i < t .n → live st i ≡ false → IdleFits t st i
-    unfolding fitsTask
-    idle-task b e = idle-fits t st i (rw (lt-ltb i (t .n) b, e) at its-fits)
+    idle-task b e = idle-fits t st i (rw (lt-ltb i (t .n) b, e) at its-clauses .1)
 
     pub unused-task : t .n ≤ i → ZeroTask st i
-    unfolding fitsTask
-    unused-task b = zero-task t st i (rw (le-ltb i (t .n) b) at its-fits)
+    unused-task b = zero-task t st i (rw (le-ltb i (t .n) b) at its-clauses .1)
 
   module _ (k : ℕ) (stopped : st .phase ≡ Stopped k) where
     at-task : (k < t .n) × (all 16 (zeroTaskIn st) ≡ true)

@@ -9,9 +9,9 @@ use native.Mathlib.Omega.{arith}
 use native.Mathlib.Decide.{decLt}
 use lib.Dec.{eqb}
 use borrow.Author.Tests.{eq-eqb}
-use Rattle.graph.specs.Words.{pick, bit, all, isIn}
+use Rattle.graph.specs.Words.{pick, bit, sum, all, isIn}
 use Rattle.graph.specs.Graph.{Path, done}
-use Rattle.graph.proofs.Facts.{and-true, below-pass}
+use Rattle.graph.proofs.Facts.{and-true, sum-none, below-pass}
 use Rattle.graph.proofs.Cycle.{Last, last}
 use Rattle.graph.proofs.Sets.{bit-set}
 use Rattle.graph.proofs.Done.{done-zero, all-done, before-done}
@@ -26,13 +26,14 @@ use Rattle.machine.specs.declared.Phase.{Phase}
 use Rattle.machine.specs.declared.Phase.the-variants.{Running, Stopped}
 use Rattle.machine.specs.declared.State.{State}
 use Rattle.machine.specs.declared.Ticked.{Ticked}
-use Rattle.machine.specs.States.{live, remaining, zeros}
+use Rattle.machine.specs.States.{live, remaining, workOf, zeros}
 use Rattle.machine.specs.Steps.{released, availables, available, worked, nothingLeft, finishes, finished, ownChoice, Legal}
 use Rattle.machine.specs.Fitting.{fits}
 use Rattle.machine.specs.Ticking.{ticked, refuse, tickOn, tick}
-use Rattle.machine.proofs.Index.{released-live, released-remaining, worked-live, worked-remaining, ended-live, zeros-live}
-use Rattle.machine.proofs.Clauses.{LiveFits, IdleFits, live-task, idle-task}
-use Rattle.machine.proofs.Standing.{Available, available-is, clear-is, nothing-is, is-nothing}
+use Rattle.machine.proofs.Index.{released-live, released-remaining, released-work, worked-live, worked-remaining, worked-work, ended-live, zeros-live}
+use Rattle.machine.proofs.Clauses.{LiveFits, IdleFits, task-work, live-task, idle-task}
+use Rattle.machine.proofs.Working.{released-keep, worked-keep, finish-test}
+use Rattle.machine.proofs.Standing.{Available, available-is, clear-is, nothing-is}
 use Rattle.machine.proofs.Ready.{all-upto}
 use Rattle.machine.proofs.Cases.{chosenIn, afterWork, afterEnds, Case, unfit, halted, no-task, early, misses, goes-on, cases}
 use Rattle.machine.proofs.Refusing.{on-table}
@@ -89,9 +90,10 @@ module _ (t : Table) (good : GoodTable t) (st : State) (fitting : fits t st ≡ 
   -- after step 4, where step 5 asks
   pub finished-after : (named : ℕ) (chosen : List ℕ)
       → finishes (worked t (released t st named) named chosen) i ≡ (live (worked t (released t st named) named chosen) i && allDone t (worked t (released t st named) named chosen) i)
-  unfolding finishes
   finished-after named chosen =
-      ap (λ (c : Bool). live (worked t (released t st named) named chosen) i && c)
+      finish-test (worked t (released t st named) named chosen)
+      (worked-keep t (released t st named) named chosen (released-keep t st named (λ k c. task-work t st fitting running k c))) i sixteen
+      ∙ ap (λ (c : Bool). live (worked t (released t st named) named chosen) i && c)
       (none-when-done t (worked t (released t st named) named chosen) i (good .each i b .v-high) (spare-after named chosen))
 
 -- ---- "one whose costs are all 0 finishes in its release tick"
@@ -103,17 +105,18 @@ module _ (choose : Table → State → List ℕ) (t : Table) (good : GoodTable t
   no-cost : (u : ℕ) → u < 16 → cost t i u ≡ 0
   no-cost u h = elim (decLt u (vertices t i)) [ yes l ↦ free u l | no l ↦ good .each i b .unused u (omega arith) h ]
 
-  none-left : (u : ℕ) → u < 16 → remaining (afterWork choose t st named) i u ≡ 0
-  none-left u h =
-      worked-remaining t (released t st named) named (chosenIn choose t st named) i below u h
-      ∙ pick-zero (isIn (16 * i + u) (chosenIn choose t st named)) (remaining (released t st named) i u)
-      (released-remaining t st named i below u h ∙ ap (λ (c : Bool). pick c (cost t i u) (remaining st i u)) n ∙ no-cost u h)
+  no-work : workOf (afterWork choose t st named) i ≡ 0
+  no-work =
+      let w = worked-work t (released t st named) named (chosenIn choose t st named) i below in
+      let r : workOf (released t st named) i ≡ 0 =
+      released-work t st named i below ∙ ap (λ (c : Bool). pick c (sum 16 (cost t i)) (workOf st i)) n ∙ sum-none 16 (cost t i) no-cost in
+      omega arith
 
   ends : finishes (afterWork choose t st named) i ≡ true
   unfolding finishes
   ends = and-true _ _
       (worked-live t (released t st named) named (chosenIn choose t st named) i below ∙ released-live t st named i below ∙ ap (λ (c : Bool). pick c true (live st i)) n)
-      (is-nothing (afterWork choose t st named) i none-left)
+      (eq-eqb (workOf (afterWork choose t st named) i) 0 no-work)
 
   in-set : bit (finished (afterWork choose t st named)) i ≡ true
   unfolding finished

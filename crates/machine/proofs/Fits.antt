@@ -15,9 +15,9 @@ use Rattle.fitness.specs.Fitness as fitness
 use Rattle.fitness.proofs.Behind.{all-same}
 use Rattle.fitness.proofs.Cases as cases
 use Rattle.machine.specs.declared.State.{State}
-use Rattle.machine.specs.States.{live, wait, remaining, left}
+use Rattle.machine.specs.States.{live, wait, remaining, workOf, left}
 use Rattle.machine.specs.Steps.{clear, nothingLeft}
-use Rattle.machine.specs.Fitting.{zeroTaskIn, withinCost, wholeBehind, fitsLive, fitsIdle, fitsTask}
+use Rattle.machine.specs.Fitting.{workAgrees, zeroTaskIn, withinCost, wholeBehind, fitsLive, fitsIdle, fitsTask}
 
 leb-zero : (r : ℕ) → leb r 0 ≡ eqb r 0
 leb-zero r = elim (ℕ-discrete r 0) [
@@ -45,8 +45,13 @@ module _ (st : State) (i : ℕ) (b : i < 16) where
   unfolding nothingLeft remaining
   none-same = sym (cases.none-left (st .remaining) i b)
 
+  -- the stored work
+  agrees-same : eqb (workOf st i) (fitness.workLeft (st .remaining) i) ≡ workAgrees st i
+  unfolding workAgrees remaining
+  agrees-same = ap (λ (w : ℕ). eqb (workOf st i) w) (sym (cases.work-sum (st .remaining) i b))
+
   -- "a task of zeros is idle with wait 0"
-  pub zero-same : fitness.zeroTask (live st i) (wait st i) (st .remaining) i ≡ zeroTaskIn st i
+  pub zero-same : fitness.zeroTask (live st i) (wait st i) (workOf st i) (st .remaining) i ≡ zeroTaskIn st i
   unfolding fitness.zeroTask zeroTaskIn
   zero-same = rw none-same refl
 
@@ -74,9 +79,9 @@ module _ (t : Table) (st : State) (i : ℕ) (b : i < 16) (good : GoodTask t i) w
 
 -- THE RULES AGREE, of each of a good table's sixteen entries
 pub same-rules : (t : Table) (st : State) → GoodTable t → (i : ℕ) → i < 16
-    → fitness.taskFits (t .n) (task t i) (t .costs) (live st i) (left st i) (wait st i) (st .remaining) i ≡ fitsTask t st i
+    → fitness.taskFits (t .n) (task t i) (t .costs) (live st i) (left st i) (wait st i) (workOf st i) (st .remaining) i ≡ fitsTask t st i
 unfolding fitness.taskFits fitsTask fitness.idleFits fitsIdle T
 same-rules t st good i b = elim (decLt i (t .n)) [
-  | yes l ↦ rw (lt-ltb i (t .n) l, live-same t st i b (good .each i l), none-same st i b) refl
-  | no l ↦ rw (le-ltb i (t .n) (omega arith)) (zero-same st i b)
+  | yes l ↦ rw (agrees-same st i b, lt-ltb i (t .n) l, live-same t st i b (good .each i l), none-same st i b) refl
+  | no l ↦ rw (agrees-same st i b, le-ltb i (t .n) (omega arith), zero-same st i b) refl
 ]

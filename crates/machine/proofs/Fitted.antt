@@ -14,7 +14,7 @@ use Rattle.machine.specs.declared.State.{State}
 use Rattle.machine.specs.States.{live, deadline}
 use Rattle.machine.specs.Steps.{clear}
 use Rattle.machine.specs.Fitting.{fits}
-use Rattle.machine.proofs.Clauses.{LiveFits, IdleFits, ZeroTask, live-task, idle-task, unused-task}
+use Rattle.machine.proofs.Clauses.{LiveFits, IdleFits, ZeroTask, task-work, live-task, idle-task, unused-task}
 use Rattle.machine.proofs.Standing.{clear-is, nothing-is, something, Going, Resting, Standing}
 
 -- what the types say of a state, as far as it is needed: the clock and the deadlines are numbers of 32 bits
@@ -55,4 +55,5 @@ module _ (t : Table) (good : GoodTable t) (st : State) (fitting : fits t st ≡ 
         let z = unused-task t st fitting running i b h in
         record { idles = z .idles; none = nothing-is st i (z .none) };
     no-wait = λ i h b. unused-task t st fitting running i b h .no-wait;
+    works = λ i b. task-work t st fitting running i b;
   }

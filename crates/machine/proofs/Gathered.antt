@@ -72,15 +72,15 @@ module _ (t : Table) (st : State) (in-it : ℕ) (lives : (i : ℕ) → i < 16 �
       go k b false h = sym (ready-none (t .tasks) in-it rest k h) ∙ sym (dead-none t st k (dead k b h))
 
 -- ---- the phase, where a state is judged by rows
-module _ (p : Phase) (t : Table) (costs : List ℕ) (in-it : ℕ) (ticks waits rest : List ℕ) where
-  pub by-running : p ≡ Running → all 16 (λ i. taskFits (t .n) (task t i) costs (bit in-it i) (getD ticks i 0) (getD waits i 0) rest i) ≡ fitsBy p t costs in-it ticks waits rest
+module _ (p : Phase) (t : Table) (costs : List ℕ) (in-it : ℕ) (ticks waits work rest : List ℕ) where
+  pub by-running : p ≡ Running → all 16 (λ i. taskFits (t .n) (task t i) costs (bit in-it i) (getD ticks i 0) (getD waits i 0) (getD work i 0) rest i) ≡ fitsBy p t costs in-it ticks waits work rest
   unfolding fitsBy
   by-running e = rw e refl
 
-  pub by-past : (k : ℕ) → p ≡ Stopped k → t .n ≤ k → false ≡ fitsBy p t costs in-it ticks waits rest
+  pub by-past : (k : ℕ) → p ≡ Stopped k → t .n ≤ k → false ≡ fitsBy p t costs in-it ticks waits work rest
   unfolding fitsBy
   by-past k e h = rw (e, le-ltb k (t .n) h) refl
 
-  pub by-stopped : (k : ℕ) → p ≡ Stopped k → k < t .n → all 16 (λ i. zeroTask (bit in-it i) (getD waits i 0) rest i) ≡ fitsBy p t costs in-it ticks waits rest
+  pub by-stopped : (k : ℕ) → p ≡ Stopped k → k < t .n → all 16 (λ i. zeroTask (bit in-it i) (getD waits i 0) (getD work i 0) rest i) ≡ fitsBy p t costs in-it ticks waits work rest
   unfolding fitsBy
   by-stopped k e h = rw (e, lt-ltb k (t .n) h) refl

@@ -21,7 +21,7 @@ use Rattle.machine.specs.States.{live, wait, deadline, left, zeros}
 use Rattle.machine.specs.Steps.{released, available, availables, finished, missed, Legal, ownChoice}
 use Rattle.machine.specs.Fitting.{zeroTaskIn, fitsPhase, fits}
 use Rattle.machine.specs.Ticking.{ticked, refuse, tickOn}
-use Rattle.machine.proofs.Index.{not-missed, wrap-small, zeros-live, zeros-wait, zeros-remaining}
+use Rattle.machine.proofs.Index.{not-missed, wrap-small, zeros-live, zeros-wait, zeros-remaining, zeros-work}
 use Rattle.machine.proofs.Standing.{is-nothing, Going, Resting, Standing, opened-stands, stands-fits}
 use Rattle.machine.proofs.Moving.{mid, next, next-stands, next-live, next-deadline, next-clock, kept-live, unnamed, mid-live}
 use Rattle.machine.proofs.Own.{own-legal}
@@ -61,7 +61,7 @@ stands-range t st s = record { clock = s .clock; deadlines = λ i b e. go i b e 
 -- ---- a state of zeros that is stopped at a task of the table fits
 zero-task : (c : ℕ) (p : Phase) (i : ℕ) → zeroTaskIn (zeros c p) i ≡ true
 unfolding zeroTaskIn
-zero-task c p i = rw (zeros-live c p i, zeros-wait c p i, is-nothing (zeros c p) i (λ u b. zeros-remaining c p i u)) refl
+zero-task c p i = rw (zeros-live c p i, zeros-wait c p i, zeros-work c p i, is-nothing (zeros c p) i (λ u b. zeros-remaining c p i u)) refl
 
 pub stopped-fits : (t : Table) (c k : ℕ) → k < t .n → fits t (zeros c (Stopped k)) ≡ true
 unfolding fits fitsPhase zeros

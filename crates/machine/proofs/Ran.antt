@@ -88,7 +88,7 @@ module _ (l before : List ℕ) (once : Distinct l) (j : ℕ) (now : List ℕ) (r
   pub next-untouched : getD now x 0 ≡ getD before x 0
   next-untouched = r x (ap (isIn x) parts ∙ first-in x (drop (suc j) l))
 
-  not-again : isIn x (drop (suc j) l) ≡ false
+  pub not-again : isIn x (drop (suc j) l) ≡ false
   unfolding Distinct
   not-again = subst Distinct parts (drop-distinct j l once) .0
 

@@ -173,7 +173,7 @@ module _ (choose : Table → State → List ℕ) (s : List ℕ) (st : State) (na
   on-table e = ap (λ (o : Outcome). whenRead o (λ o. refuse st (number o) (place o) 255) (λ _. tickOn choose (read s .table) st named)) e
 
   -- what holds of a tick on the file's table and of a refused reading holds of the tick
-  either-way : (P : Ticked → Type 0) → (read s .outcome ≡ Read → P (tickOn choose (read s .table) st named))
+  pub either-way : (P : Ticked → Type 0) → (read s .outcome ≡ Read → P (tickOn choose (read s .table) st named))
       → ((read s .outcome ≡ Read → ⊥) → P (refuse st (number (read s .outcome)) (place (read s .outcome)) 255)) → P answered
   either-way P f g = ⊎-elim
       (λ e. subst P (sym (on-table e)) (f e))

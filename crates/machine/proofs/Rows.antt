@@ -14,8 +14,8 @@ use Rattle.machine.specs.declared.Activity.{Activity}
 use Rattle.machine.specs.declared.Activity.the-variants.{Idle}
 use Rattle.machine.specs.declared.State.{State}
 use Rattle.machine.specs.declared.TaskState.{TaskState}
-use Rattle.machine.specs.States.{idle, activity, isLive, waitOf, deadlineOf, ticksLeft, live, wait, deadline, left, remaining}
-use Rattle.machine.specs.Steps.{clear, available, availableSets, nothingLeft, finishes, finished, ended}
+use Rattle.machine.specs.States.{idle, activity, isLive, waitOf, deadlineOf, ticksLeft, live, wait, deadline, left, remaining, workOf}
+use Rattle.machine.specs.Steps.{clear, available, availableSets, finishes, finished, ended}
 use Rattle.machine.proofs.Filling.{row-same}
 use Rattle.machine.proofs.Searching.{bit-set}
 
@@ -23,7 +23,10 @@ abbrev pub tableWith : List Task → Table
 tableWith tasks = record { m = 0; n = 0; tasks = tasks; costs = [] }
 
 abbrev pub stateWith : ℕ → List TaskState → List ℕ → State
-stateWith clock states rest = record { clock = clock; phase = Running; tasks = states; remaining = rest }
+stateWith clock states rest = record { clock = clock; phase = Running; tasks = states; remaining = rest; work = [] }
+
+abbrev pub workWith : List TaskState → List ℕ → State
+workWith states work = record { clock = 0; phase = Running; tasks = states; remaining = []; work = work }
 
 -- what task i's entry says
 abbrev pub doing : List TaskState → ℕ → Activity
@@ -40,9 +43,9 @@ abbrev pub restAt : ℕ → List TaskState → ℕ → TaskState
 restAt done states i = pick (bit done i) (record { activity = Idle (waitOf (doing states i)) }) (getD states i idle)
 
 module _ (st : State) where
-  pub finished-same : (rest : List ℕ) → st .remaining ≡ rest → finished (stateWith 0 (st .tasks) rest) ≡ finished st
-  unfolding finished finishes live activity nothingLeft remaining
-  finished-same rest q = rw (← q) refl
+  pub finished-same : (work : List ℕ) → st .work ≡ work → finished (workWith (st .tasks) work) ≡ finished st
+  unfolding finished finishes live activity workOf
+  finished-same work q = rw (← q) refl
 
   pub ended-same : (done : ℕ) → done ≡ finished st → row 16 (restAt done (st .tasks)) ≡ ended st .tasks
   unfolding finished ended wait activity

@@ -6,7 +6,7 @@ use mathlib.Core.List.{List}
 use Prim.Native.Nat.{ℕ, _+_, _*_, _/_, _%_, _≤_, _<_, min}
 use lib.ListN.{getD}
 use lib.Dec.{ltb, leb, eqb}
-use Rattle.graph.specs.Words.{pick, bit, all, lowestOr}
+use Rattle.graph.specs.Words.{flag, pick, bit, sum, all, isIn, lowestOr}
 use Rattle.graph.specs.Graph.{edge, heldBack}
 use Rattle.table.specs.declared.Table.{Table}
 use Rattle.table.specs.Memory.{task}
@@ -32,10 +32,15 @@ pub record RanksFirst (n : ℕ) (sets left : List ℕ) (i : ℕ) : Type 0 where
   pub fewest : (i ≡ 16 → ⊥) → (j : ℕ) → j < n → 0 < getD sets j 0 → getD left i 0 ≤ getD left j 0
   pub lowest : (i ≡ 16 → ⊥) → (j : ℕ) → j < n → 0 < getD sets j 0 → getD left i 0 ≡ getD left j 0 → i ≤ j
 
--- which states fit, by the set of live tasks and the rows of ticks left, waits and what remains: the clauses are crate fitness'
-unfoldable pub fitsBy : Phase → Table → List ℕ → ℕ → List ℕ → List ℕ → List ℕ → Bool
-fitsBy Running t costs live ticks waits rest = all 16 (λ i. taskFits (t .n) (task t i) costs (bit live i) (getD ticks i 0) (getD waits i 0) rest i)
-fitsBy (Stopped k) t costs live ticks waits rest = ltb k (t .n) && all 16 (λ i. zeroTask (bit live i) (getD waits i 0) rest i)
+-- step 4: how many vertices of task i a list has of which something remains, by the row of what remains
+unfoldable pub runIn : List ℕ → List ℕ → ℕ → ℕ
+runIn l rest i = sum 16 (λ u. flag (isIn (16 * i + u) l && ltb 0 (getD rest (16 * i + u) 0)))
+
+-- which states fit, by the set of live tasks and the rows of ticks left, waits, work and what remains: the clauses are crate fitness'
+unfoldable pub fitsBy : Phase → Table → List ℕ → ℕ → List ℕ → List ℕ → List ℕ → List ℕ → Bool
+fitsBy Running t costs live ticks waits work rest =
+    all 16 (λ i. taskFits (t .n) (task t i) costs (bit live i) (getD ticks i 0) (getD waits i 0) (getD work i 0) rest i)
+fitsBy (Stopped k) t costs live ticks waits work rest = ltb k (t .n) && all 16 (λ i. zeroTask (bit live i) (getD waits i 0) (getD work i 0) rest i)
 
 -- a tick's refusal by the same, in the order of specs/Ticking.antt: number 0 if there is none
 abbrev pub replyOf : ℕ → ℕ → Reply

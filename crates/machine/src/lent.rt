@@ -1,13 +1,15 @@
 // The steps of a tick where the rows lie: each is lent and changed in place.
 ghost use mathlib.Core.Path.{_≡_};
 ghost use mathlib.Core.Bool.{_&&_};
-ghost use Prim.Native.Nat.{ℕ, _+_, _*_, _-_, _/_, _<_};
+ghost use Prim.Native.Nat.{ℕ, _+_, _-_, _/_, _<_};
 ghost use lib.ListN.{length, getD};
 ghost use lib.Dec.{ltb, eqb};
-ghost use Rattle.graph.specs.Words.{pick, bit, all, row, isIn, Distinct, lowest, setOf};
+ghost use Rattle.graph.specs.Words.{pick, bit, row, isIn, Distinct, lowest, setOf};
 ghost use Rattle.table.specs.Memory.{D, T};
+ghost use Rattle.fitness.specs.Fitness.{workLeft};
 ghost use Rattle.machine.specs.States.{wrap};
 ghost use Rattle.machine.specs.Steps.{listed};
+ghost use Rattle.machine.specs.Choosing.{runIn};
 use crate::Chosen;
 use crate::steps;
 use table::Table;
@@ -92,6 +94,38 @@ pub(crate) fn put_costs(costs: &[u32; 256], named: u16, remaining: &mut [u32; 25
     }
 }
 
+// Step 1 of the work: the costs of the tasks named, added up.
+pub(crate) fn put_work(costs: &[u32; 256], named: u16, work: &mut [u64; 16])
+    requires { ⌜ length (now work) ≡ 16 ⌝ }
+    ensures { λ r. ⌜ now (work .exit) ≡ row 16 (λ i. pick (bit named i) (workLeft (now (costs .entry)) i) (getD (now (work .entry)) i 0)) ⌝ }
+{
+    if named == 0 {
+        return;
+    }
+    for i in 0..16usize {
+        if (named >> i) % 2 == 1 {
+            work[i] = fitness::work_left(costs, i);
+        }
+    }
+}
+
+// Step 4 of the work: one off for each vertex chosen of which something remains, none of them twice.
+pub(crate) fn work_off(chosen: Chosen, remaining: &[u32; 256], work: &mut [u64; 16])
+    requires { ⌜ Distinct (listed chosen) × (length (now remaining) ≡ 256) × (length (now work) ≡ 16) ⌝ }
+    ensures { λ r. ⌜ now (work .exit) ≡ row 16 (λ i. getD (now (work .entry)) i 0 - runIn (listed chosen) (now (remaining .entry)) i) ⌝ }
+{
+    let count = steps::places(chosen.count);
+    let keys = chosen.keys;
+    let mut j: usize = 0;
+    while j < count {
+        let k = steps::wide(keys[j]);
+        if remaining[k] != 0 {
+            work[k / 16] = steps::one_off(work[k / 16]);
+        }
+        j += 1;
+    }
+}
+
 // Step 4 of what remains: one tick less for each vertex chosen, none of them twice.
 pub(crate) fn run(chosen: Chosen, remaining: &mut [u32; 256])
     requires { ⌜ Distinct (listed chosen) × (length (now remaining) ≡ 256) ⌝ }
@@ -108,24 +142,24 @@ pub(crate) fn run(chosen: Chosen, remaining: &mut [u32; 256])
     }
 }
 
-// Whether task i is live and nothing remains of it.
-fn ends(live: u16, remaining: &[u32; 256], i: usize) -> bool
+// Whether task i is live and has no work left.
+fn ends(live: u16, work: &[u64; 16], i: usize) -> bool
     requires { ⌜ i < 16 ⌝ }
-    ensures { λ r. ⌜ r ≡ (bit live i && all 16 (λ u. eqb (getD (now (remaining .entry)) (16 * i + u) 0) 0)) ⌝ }
+    ensures { λ r. ⌜ r ≡ (bit live i && eqb (getD (now (work .entry)) i 0) 0) ⌝ }
 {
     if (live >> i) % 2 == 1 {
-        return fitness::nothing_left(remaining, i);
+        return work[i] == 0;
     }
     false
 }
 
-// Step 5: the live tasks of which nothing remains.
-pub(crate) fn done_of(live: u16, remaining: &[u32; 256]) -> u16
-    ensures { λ r. ⌜ r ≡ setOf 16 (λ i. bit live i && all 16 (λ u. eqb (getD (now (remaining .entry)) (16 * i + u) 0) 0)) ⌝ }
+// Step 5: the live tasks with no work left.
+pub(crate) fn done_of(live: u16, work: &[u64; 16]) -> u16
+    ensures { λ r. ⌜ r ≡ setOf 16 (λ i. bit live i && eqb (getD (now (work .entry)) i 0) 0) ⌝ }
 {
     let mut set: u16 = 0;
     for i in 0..16usize {
-        if ends(live, remaining, i) {
+        if ends(live, work, i) {
             let member = steps::power(i);
             set += member;
         }

@@ -21,6 +21,7 @@ pub fn zeros(clock: u32, phase: Phase) -> State
         phase: phase,
         tasks: [idle; 16],
         remaining: [0u32; 256],
+        work: [0u64; 16],
     }
 }
 

@@ -2,13 +2,13 @@
 ghost use mathlib.Core.Path.{_≡_};
 ghost use mathlib.Core.Bool.{_&&_};
 ghost use mathlib.Core.List.{[]};
-ghost use Prim.Native.Nat.{ℕ, _+_, _*_, _-_, _^_, _<_, min};
+ghost use Prim.Native.Nat.{ℕ, _+_, _-_, _^_, _<_, min};
 ghost use lib.ListN.{getD};
 ghost use lib.Dec.{eqb};
-ghost use Rattle.graph.specs.Words.{pick, all, row, isIn, lowest};
+ghost use Rattle.graph.specs.Words.{pick, row, isIn, lowest};
 ghost use Rattle.machine.specs.declared.Activity.the-variants.{Idle, Live};
-ghost use Rattle.machine.specs.States.{isLive, waitOf, deadlineOf, wrap};
-ghost use Rattle.machine.specs.Steps.{released, withWait, listed, worked, finished, ended, missed};
+ghost use Rattle.machine.specs.States.{isLive, waitOf, deadlineOf, workOf, wrap};
+ghost use Rattle.machine.specs.Steps.{released, withWait, listed, runOf, worked, finished, ended, missed};
 use crate::Activity;
 use crate::Chosen;
 use crate::State;
@@ -83,6 +83,20 @@ fn named_costs(t: Table, st: State, named: u16) -> [u32; 256]
     remaining
 }
 
+// Step 1 of the work: a named task's costs added up.
+fn named_work(t: Table, st: State, named: u16) -> [u64; 16]
+    ensures { λ r. ⌜ r ≡ released t st named .work ⌝ }
+{
+    let costs = t.costs;
+    let mut work = st.work;
+    for i in 0..16usize {
+        if (named >> i) % 2 == 1 {
+            work[i] = fitness::work_left(&costs, i);
+        }
+    }
+    work
+}
+
 // Step 1.
 pub fn release(t: Table, st: State, named: u16) -> State
     ensures { λ r. ⌜ r ≡ released t st named ⌝ }
@@ -96,6 +110,7 @@ pub fn release(t: Table, st: State, named: u16) -> State
         phase: p,
         tasks: named_live(t, st, named),
         remaining: named_costs(t, st, named),
+        work: named_work(t, st, named),
     }
 }
 
@@ -180,6 +195,35 @@ fn ran(st: State, chosen: Chosen) -> [u32; 256]
     remaining
 }
 
+// One less, not below 0, in 64 bits.
+pub(crate) fn one_off(x: u64) -> u64
+    ensures { λ r. ⌜ r ≡ x - 1 ⌝ }
+{
+    if x == 0 {
+        return 0;
+    }
+    x - 1
+}
+
+// Step 4 of the work: one off for each vertex that runs. What was listed before is taken out, so that it does not count again.
+fn worked_off(st: State, chosen: Chosen) -> [u64; 16]
+    ensures { λ r. ⌜ r ≡ row 16 (λ i. workOf st i - runOf st i (listed chosen)) ⌝ }
+{
+    let mut work = st.work;
+    let mut left = st.remaining;
+    let count = places(chosen.count);
+    let mut j: usize = 0;
+    while j < count {
+        let k = wide(chosen.keys[j]);
+        if left[k] != 0 {
+            left[k] = 0;
+            work[k / 16] = one_off(work[k / 16]);
+        }
+        j += 1;
+    }
+    work
+}
+
 // Step 4.
 pub(crate) fn work(t: Table, st: State, named: u16, chosen: Chosen) -> State
     ensures { λ r. ⌜ r ≡ worked t st named (listed chosen) ⌝ }
@@ -190,6 +234,7 @@ pub(crate) fn work(t: Table, st: State, named: u16, chosen: Chosen) -> State
         phase: p,
         tasks: waits(t, st, named),
         remaining: ran(st, chosen),
+        work: worked_off(st, chosen),
     }
 }
 
@@ -211,14 +256,13 @@ pub(crate) fn power(i: usize) -> u16
     1u16 << i
 }
 
-// Whether task i's job, live or not, ends.
-fn ends(s: TaskState, remaining: &[u32; 256], i: usize) -> bool
-    requires { ⌜ i < 16 ⌝ }
-    ensures { λ r. ⌜ r ≡ (isLive (s .activity) && all 16 (λ u. eqb (getD (now (remaining .entry)) (16 * i + u) 0) 0)) ⌝ }
+// Whether a task's job, live or not, ends.
+fn ends(s: TaskState, work: u64) -> bool
+    ensures { λ r. ⌜ r ≡ (isLive (s .activity) && eqb work 0) ⌝ }
 {
     let a = s.activity;
     if is_live(a) {
-        return fitness::nothing_left(remaining, i);
+        return work == 0;
     }
     false
 }
@@ -228,10 +272,10 @@ pub(crate) fn finished_set(st: State) -> u16
     ensures { λ r. ⌜ r ≡ finished st ⌝ }
 {
     let states = st.tasks;
-    let left = st.remaining;
+    let work = st.work;
     let mut set: u16 = 0;
     for i in 0..16usize {
-        if ends(states[i], &left, i) {
+        if ends(states[i], work[i]) {
             let member = power(i);
             set += member;
         }
@@ -270,11 +314,13 @@ pub(crate) fn end_jobs(st: State, done: u16) -> State
 {
     let p = st.phase;
     let left = st.remaining;
+    let work = st.work;
     State {
         clock: st.clock,
         phase: p,
         tasks: ended_tasks(st, done),
         remaining: left,
+        work: work,
     }
 }
 

@@ -216,23 +216,26 @@ pub(crate) fn tick_on(t: Table, st: State, named: u16) -> Ticked
     let states = st.tasks;
     let costs = t.costs;
     let mut remaining = st.remaining;
+    let mut work = st.work;
     let live = held::live_set(states);
     let mut deadlines = held::deadlines_of(states);
     let mut waits = held::waits_of(states);
     let ticks = held::left_of(&deadlines, clock);
-    let fits = fitting::fits_rows(t, phase, &costs, live, &ticks, &waits, &remaining);
+    let fits = fitting::fits_rows(t, phase, &costs, live, &ticks, &waits, &work, &remaining);
     let no = refusal(fits, phase, named, t.n, &waits);
     if no.number != 0 {
         return refuse(st, no.number, 0, no.task);
     }
     lent::begin(t, clock, named, &mut deadlines, &mut waits);
     lent::put_costs(&costs, named, &mut remaining);
+    lent::put_work(&costs, named, &mut work);
     let begun = live | named;
     let left = held::left_of(&deadlines, clock);
     let sets = choosing::sets_of(t, begun, &remaining);
     let chosen = choosing::choose(t.m, t.n as usize, sets, &left);
+    lent::work_off(chosen, &remaining, &mut work);
     lent::run(chosen, &mut remaining);
-    let done = lent::done_of(begun, &remaining);
+    let done = lent::done_of(begun, &work);
     let going = begun & !done;
     let next = std::num::wrapping_add_u32(clock, 1);
     let late = lent::first_late(going, &deadlines, next);
@@ -250,6 +253,7 @@ pub(crate) fn tick_on(t: Table, st: State, named: u16) -> Ticked
             phase: Phase::Running,
             tasks: held::together(going, &deadlines, &waits),
             remaining: remaining,
+            work: work,
         },
     }
 }

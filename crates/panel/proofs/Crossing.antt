@@ -44,7 +44,7 @@ module _ (st : State) where
   pub there-and-back : length (st .tasks) ≡ 16 → stateOf (faceOf st) ≡ st
   unfolding stateOf activity faceOf
   there-and-back n =
-      ap₂ (λ (p : Phase) (ts : List TaskState). record { clock = st .clock; phase = p; tasks = ts; remaining = st .remaining }) same-phase
+      ap₂ (λ (p : Phase) (ts : List TaskState). record { clock = st .clock; phase = p; tasks = ts; remaining = st .remaining; work = st .work }) same-phase
       (row-same 16 idle _ (st .tasks) n (λ i b. ap (λ (a : Activity). record { activity = a }) (ap activityOf (task-there i b) ∙ activity-back (activity st i))))
 
 -- ---- it is a state as it crosses
@@ -132,5 +132,5 @@ module _ (f : FaceState) (n : length (f .tasks) ≡ 16) (h : isProper f ≡ true
   pub back-and-there : faceOf (stateOf f) ≡ f
   unfolding faceOf stateOf
   back-and-there =
-      ap₂ (λ (s k : ℕ). record { clock = f .clock; stopped = s; at = k; tasks = row 16 (λ i. faceTask (activity (stateOf f) i)); remaining = f .remaining }) same-stopped same-at
-      ∙ ap (λ (ts : List FaceTask). record { clock = f .clock; stopped = f .stopped; at = f .at; tasks = ts; remaining = f .remaining }) same-tasks
+      ap₂ (λ (s k : ℕ). record { clock = f .clock; stopped = s; at = k; tasks = row 16 (λ i. faceTask (activity (stateOf f) i)); remaining = f .remaining; work = f .work }) same-stopped same-at
+      ∙ ap (λ (ts : List FaceTask). record { clock = f .clock; stopped = f .stopped; at = f .at; tasks = ts; remaining = f .remaining; work = f .work }) same-tasks

@@ -35,6 +35,7 @@ faceOf st = record {
   at = atOf (st .phase);
   tasks = row 16 (λ i. faceTask (activity st i));
   remaining = st .remaining;
+  work = st .work;
 }
 
 -- THE STATE THAT CROSSED. Task i of it:
@@ -56,6 +57,7 @@ stateOf s = record {
   phase = phaseOf (s .stopped) (s .at);
   tasks = row 16 (λ i. record { activity = activityOf (faceTaskAt s i) });
   remaining = s .remaining;
+  work = s .work;
 }
 
 -- WHICH ARE STATES: each such byte is 0 or 1, and no number stands where the state has none, "a task of a running one"

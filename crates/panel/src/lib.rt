@@ -56,6 +56,7 @@ pub struct FaceState {
     pub at: u8,
     pub tasks: [FaceTask; 16],
     pub remaining: [u32; 256],
+    pub work: [u64; 16],
 }
 
 // Opening's number, task, place and state.

@@ -74,12 +74,14 @@ pub(crate) fn face_of(st: State) -> FaceState
 {
     let p = st.phase;
     let remaining = st.remaining;
+    let work = st.work;
     FaceState {
         clock: st.clock,
         stopped: stopped_of(p),
         at: at_of(p),
         tasks: face_tasks(st),
         remaining: remaining,
+        work: work,
     }
 }
 
@@ -128,11 +130,13 @@ pub(crate) fn state_of(s: FaceState) -> State
     ensures { λ r. ⌜ (r ≡ stateOf s) × (isProper s ≡ true → faceOf (stateOf s) ≡ s) ⌝ }
 {
     let remaining = s.remaining;
+    let work = s.work;
     State {
         clock: s.clock,
         phase: phase_of(s.stopped, s.at),
         tasks: tasks_of(s),
         remaining: remaining,
+        work: work,
     }
 }
 

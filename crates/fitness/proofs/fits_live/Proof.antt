@@ -1,10 +1,10 @@
 -- A case for each clause that fails; where all but the last hold, the last decides.
 use mathlib.Core.Path.{sym, _∙_}
 use native.Mathlib.Omega.{arith}
-use borrow.Author.Tests.{not-true, not-false}
+use borrow.Author.Tests.{eq-eqb, ne-eqb, not-true, not-false}
 use borrow.Author.Needs.{needs}
 use Rattle.fitness.proofs.Behind.{left-in}
-use Rattle.fitness.proofs.Cases.{no-ticks, too-many, other-wait, above-cost, all-finished, last-clause, whole-behind}
+use Rattle.fitness.proofs.Cases.{no-work, no-ticks, too-many, other-wait, above-cost, all-finished, last-clause, whole-behind}
 use Rattle.fitness.proofs.fits_live.Statement.{statement}
 use Rattle.fitness.proofs.fits_live.Tie as tie
 
@@ -35,13 +35,10 @@ within-cost-requires c κs = search needs
 returns-4 : tie.Need-returns-4
 returns-4 c = above-cost _ _ _ _ _ _ (omega arith) (omega arith) (omega arith) (sym (c .before .within-cost .ensures) ∙ not-true _ (c .if4 .taken))
 
-nothing-left-requires : tie.Need-nothing-left-requires
-nothing-left-requires c κs = search needs
-
 returns-5 : tie.Need-returns-5
 returns-5 c =
-    let b = c .before .before in
-    all-finished _ _ _ _ _ _ (omega arith) (omega arith) (omega arith) (sym (b .before .within-cost .ensures) ∙ not-false _ (b .if4 .left)) (sym (c .before .nothing-left .ensures) ∙ c .if5 .taken)
+    let b = c .before in
+    all-finished _ _ _ _ _ _ (omega arith) (omega arith) (omega arith) (sym (b .before .within-cost .ensures) ∙ not-false _ (b .if4 .left)) (sym (no-work _ _) ∙ eq-eqb _ _ (sym (b .before .before .before .before .before .before .before .before .pre .1) ∙ c .if5 .taken))
 
 used-requires : tie.Need-used-requires
 used-requires c κs = search needs
@@ -61,7 +58,8 @@ returns-6 c =
     c .whole-in .ensures
     ∙ whole-behind _ _ _ _ _ _ _ (c .before .before .before .before .used .ensures) (left-in _ _ (omega arith) _ (c .before .before .unfinished .ensures)) (c .before .held-back .ensures)
     ∙ last-clause _ _ _ _ _ _ (omega arith) (omega arith) (omega arith)
-    (sym (b .before .before .before .within-cost .ensures) ∙ not-false _ (b .before .before .if4 .left)) (sym (b .before .nothing-left .ensures) ∙ b .if5 .left)
+    (sym (b .before .before .within-cost .ensures) ∙ not-false _ (b .before .if4 .left))
+    (sym (no-work _ _) ∙ ne-eqb _ _ (λ e. b .if5 .left (b .before .before .before .before .before .before .before .before .before .pre .1 ∙ e)))
 
 pub fits-live-spec : {M : Type 1} → statement M
 fits-live-spec =
@@ -76,7 +74,6 @@ fits-live-spec =
     returns-3
     within-cost-requires
     returns-4
-    nothing-left-requires
     returns-5
     used-requires
     unfinished-requires

@@ -13,14 +13,14 @@ use native.Mathlib.Omega.{arith}
 use Rattle.machine.proofs.fitting.all_zero.Statement.{statement}
 use Rattle.machine.proofs.fitting.all_zero.Tie as tie
 
-abbrev zeroIn : ℕ → List ℕ → List ℕ → ℕ → Bool
-zeroIn live waits rest k = zeroTask (bit live k) (getD waits k 0) rest k
+abbrev zeroIn : ℕ → List ℕ → List ℕ → List ℕ → ℕ → Bool
+zeroIn live waits work rest k = zeroTask (bit live k) (getD waits k 0) (getD work k 0) rest k
 
 abbrev Inv-loop : tie.InvT-loop
-Inv-loop live waits remaining i₀ i = (i ≤ 16) × (all i (zeroIn live waits remaining) ≡ true)
+Inv-loop live waits work remaining i₀ i = (i ≤ 16) × (all i (zeroIn live waits work remaining) ≡ true)
 
 abbrev μ-loop : tie.MeasureT-loop
-μ-loop live waits remaining i₀ i = 16 - i
+μ-loop live waits work remaining i₀ i = 16 - i
 
 loop-holds : tie.Need-loop-holds Inv-loop μ-loop
 unfolding all
@@ -38,12 +38,18 @@ mul-zero-task c = search needs
 element-copy-out-zero-task : tie.Need-element-copy-out-zero-task Inv-loop μ-loop
 element-copy-out-zero-task c = search needs
 
+mul-zero-task-2 : tie.Need-mul-zero-task-2 Inv-loop μ-loop
+mul-zero-task-2 c = search needs
+
+element-copy-out-zero-task-2 : tie.Need-element-copy-out-zero-task-2 Inv-loop μ-loop
+element-copy-out-zero-task-2 c = search needs
+
 zero-task-requires : tie.Need-zero-task-requires Inv-loop μ-loop
 zero-task-requires c κs = search needs
 
 returns : tie.Need-returns Inv-loop μ-loop
 unfolding bit
-returns c = let l = c .before .before .before .before .loop in all-off 16 _ (l .i) (omega arith) (sym (c .before .zero-task .ensures) ∙ not-true _ (c .if1 .taken))
+returns c = let l = c .before .before .before .before .before .loop in all-off 16 _ (l .i) (omega arith) (sym (c .before .zero-task .ensures) ∙ not-true _ (c .if1 .taken))
 
 add-i : tie.Need-add-i Inv-loop μ-loop
 add-i c = search needs
@@ -53,7 +59,7 @@ loop-less c = search needs
 
 loop-again : tie.Need-loop-again Inv-loop μ-loop
 unfolding bit
-loop-again c = let l = c .before .before .before .before .loop in (omega arith, all-more _ _ (l .inv .1) (sym (c .before .zero-task .ensures) ∙ not-false _ (c .if1 .left)))
+loop-again c = let l = c .before .before .before .before .before .loop in (omega arith, all-more _ _ (l .inv .1) (sym (c .before .zero-task .ensures) ∙ not-false _ (c .if1 .left)))
 
 returns-2 : tie.Need-returns-2 Inv-loop μ-loop
 returns-2 c = all-done 16 _ (c .before .loop .i) (omega arith) (c .before .loop .inv .1)
@@ -69,6 +75,8 @@ all-zero-spec =
     shr-is-live
     mul-zero-task
     element-copy-out-zero-task
+    mul-zero-task-2
+    element-copy-out-zero-task-2
     zero-task-requires
     returns
     add-i

@@ -16,16 +16,16 @@ enum-known-phase : tie.Need-enum-known-phase
 enum-known-phase c = search needs
 
 returns : tie.Need-returns
-returns c = by-past _ _ _ _ _ _ _ _ (c .before .before .before .phase .given .1) (omega arith)
+returns c = by-past _ _ _ _ _ _ _ _ _ (c .before .before .before .phase .given .1) (omega arith)
 
 all-zero-requires : tie.Need-all-zero-requires
 all-zero-requires c κs = search needs
 
 returns-2 : tie.Need-returns-2
-returns-2 c = c .tasks-fit .ensures ∙ by-running _ _ _ _ _ _ _ (c .before .enum-told .given .1)
+returns-2 c = c .tasks-fit .ensures ∙ by-running _ _ _ _ _ _ _ _ (c .before .enum-told .given .1)
 
 returns-3 : tie.Need-returns-3
-returns-3 c = c .all-zero .ensures ∙ by-stopped _ _ _ _ _ _ _ _ (c .before .before .before .before .phase .given .1) (omega arith)
+returns-3 c = c .all-zero .ensures ∙ by-stopped _ _ _ _ _ _ _ _ _ (c .before .before .before .before .phase .given .1) (omega arith)
 
 pub fits-rows-spec : {M : Type 1} → statement M
 fits-rows-spec =

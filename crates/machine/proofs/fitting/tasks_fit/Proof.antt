@@ -15,14 +15,14 @@ use native.Mathlib.Omega.{arith}
 use Rattle.machine.proofs.fitting.tasks_fit.Statement.{statement}
 use Rattle.machine.proofs.fitting.tasks_fit.Tie as tie
 
-abbrev fitsIn : ℕ → List Task → List ℕ → ℕ → List ℕ → List ℕ → List ℕ → ℕ → Bool
-fitsIn n tasks costs live ticks waits rest k = taskFits n (getD tasks k noTask) costs (bit live k) (getD ticks k 0) (getD waits k 0) rest k
+abbrev fitsIn : ℕ → List Task → List ℕ → ℕ → List ℕ → List ℕ → List ℕ → List ℕ → ℕ → Bool
+fitsIn n tasks costs live ticks waits work rest k = taskFits n (getD tasks k noTask) costs (bit live k) (getD ticks k 0) (getD waits k 0) (getD work k 0) rest k
 
 abbrev Inv-loop : tie.InvT-loop
-Inv-loop costs live ticks waits remaining n tasks i₀ i = (i ≤ 16) × (all i (fitsIn n tasks costs live ticks waits remaining) ≡ true)
+Inv-loop costs live ticks waits work remaining n tasks i₀ i = (i ≤ 16) × (all i (fitsIn n tasks costs live ticks waits work remaining) ≡ true)
 
 abbrev μ-loop : tie.MeasureT-loop
-μ-loop costs live ticks waits remaining n tasks i₀ i = 16 - i
+μ-loop costs live ticks waits work remaining n tasks i₀ i = 16 - i
 
 cast-n : tie.Need-cast-n Inv-loop μ-loop
 cast-n c = search needs
@@ -55,12 +55,18 @@ mul-fits-task-2 c = search needs
 element-copy-out-fits-task-2 : tie.Need-element-copy-out-fits-task-2 Inv-loop μ-loop
 element-copy-out-fits-task-2 c = search needs
 
+mul-fits-task-3 : tie.Need-mul-fits-task-3 Inv-loop μ-loop
+mul-fits-task-3 c = search needs
+
+element-copy-out-fits-task-3 : tie.Need-element-copy-out-fits-task-3 Inv-loop μ-loop
+element-copy-out-fits-task-3 c = search needs
+
 fits-task-requires : tie.Need-fits-task-requires Inv-loop μ-loop
 fits-task-requires c κs = search needs
 
 returns : tie.Need-returns Inv-loop μ-loop
 unfolding bit noTask task
-returns c = let l = c .before .before .before .before .before .before .loop in all-off 16 _ (l .i) (omega arith) (sym (c .before .fits-task .ensures) ∙ not-true _ (c .if1 .taken))
+returns c = let l = c .before .before .before .before .before .before .before .loop in all-off 16 _ (l .i) (omega arith) (sym (c .before .fits-task .ensures) ∙ not-true _ (c .if1 .taken))
 
 add-i : tie.Need-add-i Inv-loop μ-loop
 add-i c = search needs
@@ -70,7 +76,7 @@ loop-less c = search needs
 
 loop-again : tie.Need-loop-again Inv-loop μ-loop
 unfolding bit noTask
-loop-again c = let l = c .before .before .before .before .before .before .loop in (omega arith, all-more _ _ (l .inv .1) (sym (c .before .fits-task .ensures) ∙ not-false _ (c .if1 .left)))
+loop-again c = let l = c .before .before .before .before .before .before .before .loop in (omega arith, all-more _ _ (l .inv .1) (sym (c .before .fits-task .ensures) ∙ not-false _ (c .if1 .left)))
 
 returns-2 : tie.Need-returns-2 Inv-loop μ-loop
 unfolding task
@@ -92,6 +98,8 @@ tasks-fit-spec =
     element-copy-out-fits-task
     mul-fits-task-2
     element-copy-out-fits-task-2
+    mul-fits-task-3
+    element-copy-out-fits-task-3
     fits-task-requires
     returns
     add-i

@@ -1,9 +1,7 @@
-use mathlib.Core.Path.{_≡_, refl, sym, ap, ap₂, subst, _∙_}
-use borrow.Author.Tests.{eq-eqb, ne-eqb, not-true, not-false}
-use Rattle.graph.specs.Words.{pick, bit, sum, all, row, isIn, Distinct, setOf}
-use Rattle.fitness.proofs.Cases.{none-left}
+use mathlib.Core.Path.{refl}
+use borrow.Author.Tests.{eq-eqb, ne-eqb}
+use Rattle.graph.specs.Words.{bit}
 use borrow.Author.Needs.{needs}
-use native.Mathlib.Omega.{arith}
 use Rattle.machine.proofs.lent.ends.Statement.{statement}
 use Rattle.machine.proofs.lent.ends.Tie as tie
 
@@ -13,16 +11,19 @@ cast-if1 c = search needs
 shr-if1 : tie.Need-shr-if1
 shr-if1 c = search needs
 
-nothing-left-requires : tie.Need-nothing-left-requires
-nothing-left-requires c κs = search needs
+mul-result : tie.Need-mul-result
+mul-result c = search needs
+
+element-copy-out-result : tie.Need-element-copy-out-result
+element-copy-out-result c = search needs
 
 returns : tie.Need-returns
 unfolding bit
-returns c = rw (eq-eqb _ _ (c .before .if1 .taken)) (c .nothing-left .ensures ∙ sym (none-left _ _ (omega arith)))
+returns c = rw (eq-eqb _ _ (c .before .if1 .taken)) refl
 
 returns-2 : tie.Need-returns-2
 unfolding bit
 returns-2 c = rw (ne-eqb _ _ (c .if1 .left)) refl
 
 pub ends-spec : {M : Type 1} → statement M
-ends-spec = tie.close (tie.spec cast-if1 shr-if1 nothing-left-requires returns returns-2)
+ends-spec = tie.close (tie.spec cast-if1 shr-if1 mul-result element-copy-out-result returns returns-2)

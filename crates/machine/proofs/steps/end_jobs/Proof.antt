@@ -13,8 +13,8 @@ ended-tasks-requires c κs = search needs
 returns : tie.Need-returns
 unfolding ended
 returns c =
-    let st = c .before .before .args .st in
-    ap (λ (ts : List TaskState). record { clock = st .clock; phase = st .phase; tasks = ts; remaining = st .remaining }) (c .ended-tasks .ensures)
+    let st = c .before .before .before .args .st in
+    ap (λ (ts : List TaskState). record { clock = st .clock; phase = st .phase; tasks = ts; remaining = st .remaining; work = st .work }) (c .ended-tasks .ensures)
 
 pub end-jobs-spec : {M : Type 1} → statement M
 end-jobs-spec = tie.close (tie.spec ended-tasks-requires returns)

@@ -18,13 +18,13 @@ tasks-of-requires : tie.Need-tasks-of-requires
 tasks-of-requires c κs = search needs
 
 made : (s : FaceState) (p : Phase) (ts : List TaskState) → p ≡ phaseOf (s .stopped) (s .at) → ts ≡ stateOf s .tasks
-    → record { clock = s .clock; phase = p; tasks = ts; remaining = s .remaining } ≡ stateOf s
+    → record { clock = s .clock; phase = p; tasks = ts; remaining = s .remaining; work = s .work } ≡ stateOf s
 unfolding stateOf
 made s p ts e q = rw (e, q) refl
 
 returns : tie.Need-returns
 returns c =
-    let s = c .before .before .before .args .s in
+    let s = c .before .before .before .before .args .s in
     let n : length (s .tasks) ≡ 16 = search (needs, length-mapped) in
     (made _ _ _ (c .before .phase-of .ensures) (c .tasks-of .ensures), back-and-there s n)
 
