@@ -24,7 +24,7 @@ static uint16_t ready(const struct mt_state *state, unsigned tasks) {
 
 static void print_set(const char *word, uint16_t set) {
     printf(" %s", word);
-    for (unsigned i = 0; i < 16; i++)
+    for (unsigned i = 0; i < MT_TASKS; i++)
         if (set >> i & 1)
             printf(" %u", i);
 }
@@ -33,7 +33,7 @@ static void print_tick(uint32_t clock, uint16_t releases, const struct mt_tick_a
     printf("clock %" PRIu32, clock);
     print_set("release", releases);
     printf(" run");
-    for (int j = 0; j < 8 && t->ran[j].task != MT_NO_TASK; j++)
+    for (int j = 0; j < MT_PROCESSORS && t->ran[j].task != MT_NO_TASK; j++)
         printf(" %u.%u", t->ran[j].task, t->ran[j].vertex);
     print_set("finished", t->finished);
     printf("\n");

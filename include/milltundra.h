@@ -9,7 +9,7 @@
 
 /* Numbers for reading and writing. */
 enum {
-    MT_DONE = 0,    /* read or written */
+    MT_DONE = 0,    /* read or written; and the 0 of every other answer */
     MT_SHORT = 1,   /* a field does not lie wholly within the input */
     MT_MARK = 2,    /* wrong mark */
     MT_RANGE = 3,   /* m, n, v or e outside its range */
@@ -51,8 +51,29 @@ enum { MT_NO_TASK = 255 };
 /* An unused place of a chain. */
 enum { MT_NO_VERTEX = 255 };
 
+/* The most that a table may have. */
+enum {
+    MT_PROCESSORS = 8,       /* processors, m; so a run list has as many places */
+    MT_TASKS = 16,           /* tasks, n; in memory all sixteen have an entry */
+    MT_VERTICES = 16,        /* vertices of a task, v */
+    MT_EDGES = 120,          /* edges of a task, e */
+    MT_MOST_TICKS = 1000000  /* D, T and each cost; D and T are at least 1, and D is at most T */
+};
+
+/* The numbers in a row of costs, or of what remains: vertex h of task i stands at MT_VERTICES * i + h. */
+enum { MT_COSTS = 256 };
+
 /* The largest file in bytes. */
 enum { MT_LARGEST = 5060 };
+
+/* The two bytes at the start of a file, of each of its tasks, and of a journal's row. */
+#define MT_TABLE_MARK "\x54\x42"
+#define MT_TASK_MARK "\x54\x4B"
+#define MT_JOURNAL_MARK "\x4A\x52"
+
+/* Both ends of the margin's range. */
+#define MT_MARGIN_LEAST INT64_C(-240000120000000)
+#define MT_MARGIN_MOST INT64_C(8000000)
 
 /* A buffer of this many bytes holds every report. */
 enum { MT_REPORT_MOST = 1366 };
@@ -62,15 +83,15 @@ struct mt_task {
     uint8_t v;
     uint32_t d;
     uint32_t t;
-    uint16_t succ[16];
+    uint16_t succ[MT_VERTICES];
 };
 
 /* Processors, task count, sixteen tasks, used or not, and 256 costs, sixteen a task. Unused entries are zero. */
 struct mt_table {
     uint8_t m;
     uint8_t n;
-    struct mt_task tasks[16];
-    uint32_t costs[256];
+    struct mt_task tasks[MT_TASKS];
+    uint32_t costs[MT_COSTS];
 };
 
 /* Reading's number and place (0 and 0 on success), and the table (all zeros on a refusal). */
@@ -95,7 +116,7 @@ struct mt_verdict_answer {
     uint64_t place;
     int64_t margin;
     uint8_t count;
-    uint8_t chain[16];
+    uint8_t chain[MT_VERTICES];
 };
 
 /* A task of a state: `live` is 0 for idle or 1; an idle task's deadline is 0. */
@@ -106,14 +127,15 @@ struct mt_task_state {
 };
 
 /* A state of the machine: `stopped` is 0 for running or 1, and `at` the task at which it is stopped, 0 while it runs; what remains
-   of each vertex stands at sixteen times task plus vertex, and each task's work is the sum of it. Any numbers may stand in it: one that is no state is MT_UNFIT. */
+   of each vertex stands at sixteen times task plus vertex, and each task's work is the sum of it. Any numbers may stand in it: one
+   that is no state is MT_UNFIT. */
 struct mt_state {
     uint32_t clock;
     uint8_t stopped;
     uint8_t at;
-    struct mt_task_state tasks[16];
-    uint32_t remaining[256];
-    uint64_t work[16];
+    struct mt_task_state tasks[MT_TASKS];
+    uint32_t remaining[MT_COSTS];
+    uint64_t work[MT_TASKS];
 };
 
 /* Opening's number and place are reading's, its task is MT_NO_TASK. */
@@ -136,7 +158,7 @@ struct mt_tick_answer {
     uint8_t number;
     uint8_t task;
     uint64_t place;
-    struct mt_pair ran[8];
+    struct mt_pair ran[MT_PROCESSORS];
     uint16_t finished;
     struct mt_state state;
 };
