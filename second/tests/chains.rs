@@ -1,5 +1,5 @@
 //! The longest chain by name against a list of all chains, and the examples
-//! of the reading C2.
+//! of the reading D46 of docs/DECISIONS.md.
 
 use second::chain::{longest_named, Chain};
 use second::random::*;

@@ -1,4 +1,4 @@
-//! The readings of open places, A1 to A19, one test each.
+//! The readings of open places, by their number in docs/DECISIONS.md.
 
 use second::examples::*;
 use second::machine::*;
@@ -43,7 +43,7 @@ fn row_of(pairs: &[(u32, u32)]) -> Table {
 }
 
 #[test]
-fn a1_edges_count_every_bit() {
+fn d1_edges_count_every_bit() {
     let mut table = lone(16);
     table.tasks[0].succ = [0xFFFF; ENTRIES];
     assert_eq!(put(&table, LARGEST), (3, 7));
@@ -63,7 +63,7 @@ fn a1_edges_count_every_bit() {
 }
 
 #[test]
-fn a2_n_or_v_out_of_range() {
+fn d2_n_or_v_out_of_range() {
     let r = &mut Random::new(81);
     assert_eq!(put(&Table::ZERO, LARGEST), (3, 2));
     for bad in [0, 17, 18, 128, 255] {
@@ -86,7 +86,7 @@ fn a2_n_or_v_out_of_range() {
 }
 
 #[test]
-fn a3_ten_after_all_of_three_to_seven() {
+fn d3_ten_after_all_of_three_to_seven() {
     let mut table = table_a();
     table.costs[3] = 5;
     assert_eq!(put(&table, 0), (10, 0));
@@ -98,7 +98,7 @@ fn a3_ten_after_all_of_three_to_seven() {
 }
 
 #[test]
-fn a4_what_ten_covers() {
+fn d4_what_ten_covers() {
     let changes: [fn(&mut Table); 8] = [
         |t| t.tasks[2].v = 1,
         |t| t.tasks[15].deadline = 1,
@@ -120,7 +120,7 @@ fn a4_what_ten_covers() {
 }
 
 #[test]
-fn a5_a_refused_opening() {
+fn d13_a_refused_opening() {
     let opened = open(&TABLE_A[..51], 12_345);
     assert_eq!((opened.number, opened.place, opened.task), (1, 48, 255));
     assert_eq!(opened.state, State::zeros(0, Phase::Stopped(255)));
@@ -130,7 +130,7 @@ fn a5_a_refused_opening() {
 }
 
 #[test]
-fn a6_its_state_never_fits() {
+fn d14_its_state_never_fits() {
     let state = open(&[], 0).state;
     let r = &mut Random::new(82);
     for _ in 0..200 {
@@ -141,7 +141,7 @@ fn a6_its_state_never_fits() {
 }
 
 #[test]
-fn a7_thirty_before_thirty_two() {
+fn d15_thirty_before_thirty_two() {
     for (task, number) in [(0, 32), (1, 32), (2, 30), (255, 30)] {
         let state = State::zeros(9, Phase::Stopped(task));
         assert_eq!(tick(&TABLE_A, &state, 0xFFFF).answer.number, number);
@@ -153,7 +153,7 @@ fn a7_thirty_before_thirty_two() {
 }
 
 #[test]
-fn a8_a_stopped_state_is_zero() {
+fn d16_a_stopped_state_is_zero() {
     let base = State::zeros(9, Phase::Stopped(0));
     let mut live = base;
     live.tasks[1] = Job::Live {
@@ -176,7 +176,7 @@ fn a8_a_stopped_state_is_zero() {
 }
 
 #[test]
-fn a9_the_same_state_for_readings_numbers_too() {
+fn d21_the_same_state_for_readings_numbers_too() {
     let r = &mut Random::new(83);
     for length in 0..52 {
         let state = damaged_state(r, &open(&TABLE_A, 5).state, 4);
@@ -190,7 +190,7 @@ fn a9_the_same_state_for_readings_numbers_too() {
 }
 
 #[test]
-fn a10_a_miss_hands_out_its_runs_and_ends() {
+fn d17_a_miss_hands_out_its_runs_and_ends() {
     let mut table = row_of(&[(1, 1), (1, 2), (1, 3)]);
     table.m = 2;
     table.costs[0] = 2;
@@ -210,7 +210,7 @@ fn a10_a_miss_hands_out_its_runs_and_ends() {
 }
 
 #[test]
-fn a11_thirty_one_before_thirty_three() {
+fn d18_thirty_one_before_thirty_three() {
     let mut state = open(&TABLE_A, 0).state;
     tick_in_place(&TABLE_A, &mut state, 1);
     for (set, number, task) in [
@@ -227,7 +227,7 @@ fn a11_thirty_one_before_thirty_three() {
 }
 
 #[test]
-fn a12_ticks_left_from_one_to_d_less_one() {
+fn d19_ticks_left_from_one_to_d_less_one() {
     let live = |left: u32, wait: u32| {
         let mut state = State::zeros(u32::MAX - 1, Phase::Running);
         let deadline = state.clock.wrapping_add(left);
@@ -251,7 +251,7 @@ fn a12_ticks_left_from_one_to_d_less_one() {
 }
 
 #[test]
-fn a13_a_fitting_state_need_not_be_reachable() {
+fn a_fitting_state_need_not_be_reachable() {
     // Nine of ten ticks are gone and nothing has been done: never from idle
     // on two processors by this rule, yet it fits, and so does what follows.
     let a = table_a();
@@ -269,13 +269,13 @@ fn a13_a_fitting_state_need_not_be_reachable() {
 }
 
 #[test]
-fn a14_an_idle_task_has_no_deadline() {
+fn d20_an_idle_task_has_no_deadline() {
     let state = open(&TABLE_A, 3).state;
     assert!(state.tasks.iter().all(|job| *job == Job::Idle { wait: 0 }));
 }
 
 #[test]
-fn a15_reports_of_any_input() {
+fn d12_reports_of_any_input() {
     let mut long = TABLE_A.to_vec();
     long.resize(1_000_000, 0x54);
     assert_eq!(report(&long), b"unreadable 8 at 52\n");
@@ -283,7 +283,7 @@ fn a15_reports_of_any_input() {
 }
 
 #[test]
-fn a16_widths() {
+fn d5_widths() {
     let table = Table::ZERO;
     let _: (u8, u8, u8) = (table.m, table.n, table.tasks[0].v);
     let _: (u32, u32, u32) = (
@@ -296,7 +296,7 @@ fn a16_widths() {
 }
 
 #[test]
-fn a17_accepted_tables_have_no_miss_and_no_chain_too_long() {
+fn d22_accepted_tables_have_no_miss_and_no_chain_too_long() {
     let r = &mut Random::new(84);
     let mut seen = explore::KeySet::new();
     let mut explored = 0;
@@ -311,7 +311,7 @@ fn a17_accepted_tables_have_no_miss_and_no_chain_too_long() {
 }
 
 #[test]
-fn a18_the_largest_margin() {
+fn d9_the_largest_margin() {
     let mut table = row_of(&[(MOST_TICKS, MOST_TICKS)]);
     table.m = 8;
     assert_eq!(figures(&table, 0).margin, 7_999_992);
@@ -323,7 +323,7 @@ fn a18_the_largest_margin() {
 }
 
 #[test]
-fn a19_twenty_names_the_lowest_not_the_smallest() {
+fn d10_twenty_names_the_lowest_not_the_smallest() {
     // Margins 2, -1 and -3 on one processor.
     let mut table = row_of(&[(9, 9), (6, 9), (4, 9)]);
     table.costs[0] = 5;
@@ -344,7 +344,7 @@ fn running_and_stopped() -> [State; 2] {
 }
 
 #[test]
-fn d5_a_stored_number_that_differs_is_thirty() {
+fn d53_a_stored_number_that_differs_is_thirty() {
     for (state, number) in running_and_stopped().into_iter().zip([0, 32]) {
         assert_eq!(tick(&TABLE_A, &state, 0).answer.number, number);
         // Task 0 is live or stopped, task 1 idle or stopped at, 2 and 15 unused.
@@ -361,7 +361,7 @@ fn d5_a_stored_number_that_differs_is_thirty() {
 }
 
 #[test]
-fn d6_stored_work_over_a_run() {
+fn d53_stored_work_over_a_run() {
     let [running, stopped] = running_and_stopped();
     let with = |work: u64| {
         let mut row = [0; 16];

@@ -1,5 +1,5 @@
 //! Document 02, M-103: fork and join marks cost nothing. Its sentences one by
-//! one, with the readings D1 to D4.
+//! one, with the readings D49 to D52 of docs/DECISIONS.md.
 
 use second::examples::{plain_task, table_marks, TABLE_A};
 use second::explore::{explore_by, runs_early, small_tables, KeySet, Wrong};
@@ -123,7 +123,7 @@ fn done_told_twice() {
             assert_eq!(open >> h & 1 == 0, done(task, rest, h));
             held += u32::from(open >> h & 1 == 1 && rest[h] == 0);
         }
-        // "A job is finished when all its vertices are done": D1, all are done
+        // "A job is finished when all its vertices are done": D52, all are done
         // just if nothing remains.
         assert_eq!(open == 0, rest.iter().all(|x| *x == 0));
         apart += u32::from(held_back(task, rest) != held_by_remaining(task, rest));
@@ -131,7 +131,7 @@ fn done_told_twice() {
     assert!(held > 5_000 && apart > 500, "{held} {apart}");
 }
 
-/// "So one whose costs are all 0 finishes in its release tick": D4.
+/// "So one whose costs are all 0 finishes in its release tick": D49.
 #[test]
 fn a_job_of_nothing_ends_in_its_release_tick() {
     for (deadline, period) in [(1, 1), (1, 4), (5, 7)] {
@@ -158,7 +158,7 @@ fn a_job_of_nothing_ends_in_its_release_tick() {
     assert_eq!(answer.ran[0], (1, 0));
 }
 
-/// D1: "some remaining above 0" stays, so no live job of an all-zero task fits.
+/// D49: "some remaining above 0" stays, so no live job of an all-zero task fits.
 #[test]
 fn a_live_job_of_nothing_never_fits() {
     let table = lone(1, 5, 5, &[0, 0], &[(0, 1)]);
@@ -174,7 +174,7 @@ fn a_live_job_of_nothing_never_fits() {
     }
 }
 
-/// D2: a start of cost 0 is done at release; what follows a run of zeros after
+/// D50: a start of cost 0 is done at release; what follows a run of zeros after
 /// one that ends in a tick runs in the next.
 #[test]
 fn zeros_take_no_tick_and_save_none() {
@@ -189,7 +189,7 @@ fn zeros_take_no_tick_and_save_none() {
 }
 
 /// "In the state rule, a vertex with a predecessor not done still has its whole
-/// cost": D3, for one of cost 0 that is nothing, and it is not done.
+/// cost": D50, for one of cost 0 that is nothing, and it is not done.
 #[test]
 fn the_state_rule() {
     let table = fork_and_join(2);
