@@ -1,6 +1,6 @@
 //! The longest chain by name: of equal chains the one whose list is first.
 
-use crate::graph::first;
+use crate::graph::take_away;
 use crate::table::ENTRIES;
 
 /// A chain's vertices in path order, at the front of sixteen places; the
@@ -52,21 +52,11 @@ fn better(one: Summed, other: Summed) -> Summed {
 /// of nothing.
 pub fn longest_named(succ: &[u16; ENTRIES], amounts: &[u32; ENTRIES], v: usize) -> Chain {
     let mut best = [(0, Chain::NONE); ENTRIES];
-    let mut left = first(v);
-    while left != 0 {
-        let before = left;
-        for h in (0..v).rev() {
-            if left >> h & 1 == 1 && succ[h] & left == 0 {
-                left &= !(1 << h);
-                let next = (0..v).filter(|w| succ[h] >> w & 1 == 1);
-                let rest = next.map(|w| best[w]).fold((0, Chain::NONE), better);
-                best[h] = (u64::from(amounts[h]) + rest.0, rest.1.behind(h));
-            }
-        }
-        if left == before {
-            break;
-        }
-    }
+    take_away(succ, v, |h| {
+        let next = (0..v).filter(|w| succ[h] >> w & 1 == 1);
+        let rest = next.map(|w| best[w]).fold((0, Chain::NONE), better);
+        best[h] = (u64::from(amounts[h]) + rest.0, rest.1.behind(h));
+    });
     let all = best[..v].iter().copied();
     all.reduce(better).map_or(Chain::NONE, |found| found.1)
 }
