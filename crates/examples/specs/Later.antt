@@ -37,7 +37,7 @@ later =
     ∷ judging fileLater 20 0 0 (negsuc 1) (2 ∷ 0 ∷ [])
     ∷ []
 
--- THE STATEMENT: they all hold, and the six ticks lead back to a state just opened, so that they go well for ever
+-- THE STATEMENT: they all hold, and the six ticks end in a state just opened: a longer simulation sees no more
 pub record LaterHolds : Type 0 where
   pub examples : T (hold later)
   pub round : after fileLater (opening fileLater 0 .state) atOnce ≡ opening fileLater 6 .state
