@@ -2,6 +2,8 @@
 pub mod Examples
 -- FORK AND JOIN MARKS (document 02, M-103), played and judged: stated.
 pub mod Marks
+-- A SIMULATION THAT GOES WELL, and a later release that misses: stated.
+pub mod Later
 -- P9 TO P12 as they are shown, line by line: stated.
 pub mod Shown
 -- DEMAND 3 IS NOT EMPTY: a run of table A's file, stated.
