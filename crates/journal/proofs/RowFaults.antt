@@ -1,5 +1,5 @@
 -- A row's refusals in their order, as the code finds them; and what a row that is not refused leaves.
-use mathlib.Core.Path.{_≡_, refl, sym, ap, _∙_}
+use mathlib.Core.Path.{_≡_, refl, sym, ap, ap₂, _∙_}
 use mathlib.Core.Bool.{Bool, true, false, _&&_, _||_, not}
 use mathlib.Core.List.{List}
 use Prim.Native.Nat.{ℕ, _≤_, _<_, min}
@@ -8,14 +8,15 @@ use native.Mathlib.Decide.{ℕ-discrete}
 use lib.ListN.{length}
 use lib.Dec.{ltb, leb}
 use borrow.Author.Tests.{ltb-false}
-use Rattle.graph.specs.Words.{pick, bit, lowest, lowestOr}
+use Rattle.graph.specs.Words.{pick, bit, row, lowest, lowestOr}
 use Rattle.graph.proofs.Facts.{clash, lowestOr-none}
 use Rattle.table.specs.declared.Table.{Table}
 use Rattle.machine.specs.declared.State.{State}
-use Rattle.machine.specs.States.{wait}
+use Rattle.machine.specs.States.{wait, left}
 use Rattle.machine.specs.declared.Ticked.{Ticked}
-use Rattle.machine.specs.Steps.{released, availables, worked}
-use Rattle.machine.specs.Ticking.{advanceTo, advance}
+use Rattle.machine.specs.declared.Offer.{Offer}
+use Rattle.machine.specs.Steps.{released, availables, availableSets, offered}
+use Rattle.machine.specs.Ticking.{advance}
 use Rattle.machine.proofs.Lowest.{lowestOr-is}
 use Rattle.machine.proofs.Searching.{found, found-none}
 use Rattle.journal.specs.declared.Progress.{Progress}
@@ -137,12 +138,18 @@ module _ (t : Table) (s : List ℕ) (p : Progress) (e : judgeRow t s p .number �
       let f = row-further in
       omega arith
 
--- the machine's tick, by its parts
-pub advanced : (t : Table) (st begun : State) (set named : ℕ) (l chosen : List ℕ) (r : Ticked) → begun ≡ released t st named → set ≡ named → l ≡ chosen
-    → r ≡ advanceTo l (worked t begun set l) → r ≡ advance t st named chosen
-unfolding advance
-advanced t st begun set named l chosen r a b c e =
-    e
-    ∙ ap (λ (x : List ℕ). advanceTo x (worked t begun set x)) c
-    ∙ ap (λ (x : State). advanceTo chosen (worked t x set chosen)) a
-    ∙ ap (λ (x : ℕ). advanceTo chosen (worked t (released t st named) x chosen)) b
+-- ---- what the machine offers, and its tick, by their parts
+module _ (t : Table) (st : State) (set : ℕ) where
+  pub offered-sets : (o : Offer) → o ≡ offered t st set → o .sets ≡ availableSets t (released t st set)
+  unfolding offered
+  offered-sets o e = ap (λ (x : Offer). x .sets) e
+
+  pub offered-left : (o : Offer) → o ≡ offered t st set → o .left ≡ row 16 (left (released t st set))
+  unfolding offered
+  offered-left o e = ap (λ (x : Offer). x .left) e
+
+  pub offered-of : (named : ℕ) (o : Offer) → set ≡ named → o ≡ offered t st set → o ≡ offered t st named
+  offered-of named o a e = e ∙ ap (offered t st) a
+
+  pub advanced : (named : ℕ) (l chosen : List ℕ) (r : Ticked) → set ≡ named → l ≡ chosen → r ≡ advance t st set l → r ≡ advance t st named chosen
+  advanced named l chosen r a b e = e ∙ ap₂ (λ (n : ℕ) (x : List ℕ). advance t st n x) a b

@@ -1,7 +1,10 @@
 // Judging row by row: document 02, M-100. The definitions are in specs/Judging.antt.
 ghost use mathlib.Core.Path.{_≡_};
-ghost use Prim.Native.Nat.{_≤_};
+ghost use Prim.Native.Nat.{ℕ, _≤_};
 ghost use lib.ListN.{length};
+ghost use Rattle.table.specs.declared.Table.{Table};
+ghost use Rattle.machine.specs.declared.State.{State};
+ghost use Rattle.machine.specs.Steps.{released, offered};
 ghost use Rattle.journal.specs.Rows.{rowEnd, isStopped, choiceFault};
 ghost use Rattle.journal.specs.Listing.{SetTested, tooWide, Narrow, judgePiece};
 ghost use Rattle.journal.specs.Judging.{judgeRow, judgeRows, start, ruling, unread, judge};
@@ -9,6 +12,7 @@ use crate::Progress;
 use crate::Ruling;
 use crate::fields;
 use crate::lists;
+use machine::Offer;
 use machine::Phase;
 use machine::State;
 use table::Outcome;
@@ -52,19 +56,20 @@ fn set_fault(t: Table, st: State, bytes: &[u8], at: usize) -> u8
     0
 }
 
-// The refusals of a row's choice, in order; 0 if there is none. The state is that after step 1.
-fn choice_fault(t: Table, st: State, bytes: &[u8], at: usize) -> u8
+// The refusals of a row's choice, in order; 0 if there is none. The offer is that of its release set.
+fn choice_fault(m: u8, offer: Offer, bytes: &[u8], at: usize) -> u8
     requires { ⌜ rowEnd (now bytes) at ≤ length (now bytes) ⌝ }
-    ensures { λ r. ⌜ r ≡ choiceFault t st (now (bytes .entry)) at ⌝ }
+    ensures { λ r. ⌜ ((t : Table) (st : State) (set : ℕ) → m ≡ t .m → offer ≡ offered t st set → r ≡ choiceFault t (released t st set) (now (bytes .entry)) at) ⌝ }
 {
-    let sets = machine::available_sets(t, st);
+    let sets = offer.sets;
     if !lists::are_in(sets, bytes, at) {
         return 44;
     }
-    if lists::is_few(fields::count_at(bytes, at), t.m, lists::total(sets)) {
+    if lists::is_few(fields::count_at(bytes, at), m, lists::total(sets)) {
         return 45;
     }
-    if lists::is_passing_over(sets, machine::ticks_left(st), bytes, at) {
+    let ticks = offer.left;
+    if lists::is_passing_over(sets, ticks, bytes, at) {
         return 46;
     }
     0
@@ -95,13 +100,13 @@ fn judge_row(t: Table, bytes: &[u8], p: Progress) -> Progress
         return refused(p, early);
     }
     let set = fields::set_at(bytes, at);
-    let begun = machine::release(t, st, set);
-    let late = choice_fault(t, begun, bytes, at);
+    let offer = machine::offered(t, st, set);
+    let late = choice_fault(t.m, offer, bytes, at);
     if late != 0 {
         return refused(p, late);
     }
     let chosen = lists::chosen_at(bytes, at);
-    let moved = machine::advance_from(t, begun, set, chosen);
+    let moved = machine::advance(t, st, set, chosen);
     let after = moved.state;
     let end = fields::end_at(bytes, at);
     Progress {
