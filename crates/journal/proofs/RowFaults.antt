@@ -1,14 +1,13 @@
--- A row's refusals in their order, as the code finds them; and what a row that is not refused leaves.
-use mathlib.Core.Path.{_≡_, refl, sym, ap, ap₂, _∙_}
+-- A row's refusals in their order, as the code finds them; and the machine's part in them.
+use mathlib.Core.Path.{_≡_, refl, ap, ap₂, _∙_}
 use mathlib.Core.Bool.{Bool, true, false, _&&_, _||_, not}
 use mathlib.Core.List.{List}
 use Prim.Native.Nat.{ℕ, _≤_, _<_, min}
 use native.Mathlib.Omega.{arith}
-use native.Mathlib.Decide.{ℕ-discrete}
 use lib.ListN.{length}
 use lib.Dec.{ltb, leb}
 use borrow.Author.Tests.{ltb-false}
-use Rattle.graph.specs.Words.{pick, bit, row, lowest, lowestOr}
+use Rattle.graph.specs.Words.{bit, row, lowest, lowestOr}
 use Rattle.graph.proofs.Facts.{clash, lowestOr-none}
 use Rattle.table.specs.declared.Table.{Table}
 use Rattle.machine.specs.declared.State.{State}
@@ -19,11 +18,8 @@ use Rattle.machine.specs.Steps.{released, availables, availableSets, offered}
 use Rattle.machine.specs.Ticking.{advance}
 use Rattle.machine.proofs.Lowest.{lowestOr-is}
 use Rattle.machine.proofs.Searching.{found, found-none}
-use Rattle.journal.specs.declared.Progress.{Progress}
 use Rattle.journal.specs.Rows.{rowSet, rowCount, rowEnd, listed, isStopped, cutShort, wrongMark, ascending, badList, notAvailable, tooFew, passesOver, choiceFault, setFault, fault}
 use Rattle.journal.specs.Listing.{SetTested}
-use Rattle.journal.specs.Judging.{judgeRow}
-use Rattle.journal.proofs.Going.{legal-row, refused-row}
 
 -- ---- those of its bytes and its release set
 module _ (t : Table) (st : State) (s : List ℕ) (at : ℕ) where
@@ -111,32 +107,6 @@ module _ (t : Table) (st : State) (s : List ℕ) (at : ℕ) where
   pub few-is : (r : Bool) (count n : ℕ) → r ≡ ltb count (min (t .m) n) → count ≡ rowCount s at → n ≡ length (availables t st) → r ≡ tooFew t st s at
   unfolding tooFew
   few-is r count n e a b = e ∙ ap (λ (k : ℕ). ltb k (min (t .m) n)) a ∙ ap (λ (k : ℕ). ltb (rowCount s at) (min (t .m) k)) b
-
-  pub choice-clear : choiceFault t st s at ≡ 0 → notAvailable t st s at ≡ false
-  unfolding choiceFault
-  choice-clear e = go (notAvailable t st s at) _ e
-    where
-      go : (b : Bool) (n : ℕ) → pick b 44 n ≡ 0 → b ≡ false
-      go true n z = absurd (omega arith)
-      go false n z = refl
-
--- ---- a row that is not refused
-module _ (t : Table) (s : List ℕ) (p : Progress) (e : judgeRow t s p .number ≡ 0) where
-  not-refused : fault t (p .state) s (p .next) ≡ 0
-  not-refused = elim (ℕ-discrete (fault t (p .state) s (p .next)) 0) [
-    | yes q ↦ q
-    | no q ↦ absurd (q (sym (ap (λ (x : Progress). x .number) (refused-row t s p q)) ∙ e))
-  ]
-
-  pub row-further : p .next < judgeRow t s p .next
-  unfolding rowEnd
-  row-further = let n = ap (λ (x : Progress). x .next) (legal-row t s p not-refused) in omega arith
-
-  pub row-counted : p .rows ≤ p .next → judgeRow t s p .rows ≤ judgeRow t s p .next
-  row-counted h =
-      let n = ap (λ (x : Progress). x .rows) (legal-row t s p not-refused) in
-      let f = row-further in
-      omega arith
 
 -- ---- what the machine offers, and its tick, by their parts
 module _ (t : Table) (st : State) (set : ℕ) where
