@@ -1,5 +1,5 @@
 -- A row's refusals in their order, as the code finds them; and the machine's part in them.
-use mathlib.Core.Path.{_≡_, refl, ap, ap₂, _∙_}
+use mathlib.Core.Path.{_≡_, refl, sym, ap, ap₂, _∙_}
 use mathlib.Core.Bool.{Bool, true, false, _&&_, _||_, not}
 use mathlib.Core.List.{List}
 use Prim.Native.Nat.{ℕ, _≤_, _<_, min}
@@ -8,7 +8,8 @@ use lib.ListN.{length}
 use lib.Dec.{ltb, leb}
 use borrow.Author.Tests.{ltb-false}
 use Rattle.graph.specs.Words.{bit, row, lowest, lowestOr}
-use Rattle.graph.proofs.Facts.{clash, lowestOr-none}
+use Rattle.graph.proofs.Facts.{clash, lowest-none, lowestOr-none}
+use Rattle.graph.proofs.Bits.{bit-zero}
 use Rattle.table.specs.declared.Table.{Table}
 use Rattle.machine.specs.declared.State.{State}
 use Rattle.machine.specs.States.{wait, left}
@@ -86,6 +87,15 @@ module _ (t : Table) (st : State) (s : List ℕ) (at : ℕ) where
                   first : (x y : Bool) → (x || y) ≡ false → x ≡ false
                   first true y z = absurd (clash refl z)
                   first false y z = refl
+
+          -- no task is named
+          pub none-named : t .n ≤ 16 → rowSet s at ≡ 0 → SetTested t st s at 0
+          none-named h z = set-passes
+              16 (sym (lowest-none 16 16 _ (λ i b. off i (leb (t .n) i)))) (omega arith) h
+              16 (sym (lowest-none 16 (t .n) _ (λ i b. off i (ltb 0 (wait st i))))) (omega arith)
+            where
+              off : (i : ℕ) (b : Bool) → bit (rowSet s at) i && b ≡ false
+              off i b = ap (λ (x : ℕ). bit x i && b) z ∙ ap (λ (x : Bool). x && b) (bit-zero i)
 
   -- ---- those of its choice
   pub choice-44 : notAvailable t st s at ≡ true → 44 ≡ choiceFault t st s at

@@ -48,6 +48,10 @@ fn set_fault(t: Table, st: State, bytes: &[u8], at: usize) -> u8
         return 42;
     }
     let set = fields::set_at(bytes, at);
+    // Most rows name no task.
+    if set == 0 {
+        return 0;
+    }
     if machine::first_beyond(set, t.n) < 16 {
         return 31;
     }
@@ -66,7 +70,7 @@ fn choice_fault(m: u8, offer: Offer, bytes: &[u8], at: usize) -> u8
     if !lists::are_in(sets, bytes, at) {
         return 44;
     }
-    if lists::is_few(fields::count_at(bytes, at), m, lists::total(sets)) {
+    if lists::is_few(fields::count_at(bytes, at), m, sets) {
         return 45;
     }
     let ticks = offer.left;
