@@ -1,6 +1,6 @@
 -- Judging row by row: as many steps as there are bytes to `end` will do, so what is left from a place on is the next row, then the
 -- rest. These are the laws of a loop over the rows.
-use mathlib.Core.Path.{_≡_, refl, sym, ap, _∙_}
+use mathlib.Core.Path.{_≡_, refl, sym, ap, ap₂, _∙_}
 use mathlib.Core.Logic.{_⊎_, inl, inr}
 use mathlib.Core.Bool.{Bool, true, false, _||_}
 use mathlib.Core.List.{List}
@@ -11,6 +11,7 @@ use lib.Dec.{leb}
 use borrow.Author.Tests.{eq-eqb, ne-eqb, le-leb, lt-leb}
 use Rattle.graph.proofs.Facts.{clash}
 use Rattle.table.specs.declared.Table.{Table}
+use Rattle.machine.specs.declared.State.{State}
 use Rattle.machine.specs.Ticking.{advance}
 use Rattle.journal.specs.declared.Progress.{Progress}
 use Rattle.journal.specs.Rows.{rowSet, rowEnd, listed, fault}
@@ -108,3 +109,21 @@ module _ (t : Table) (s : List ℕ) (end : ℕ) where
     where
       count : (n : ℕ) → 0 < n → n ≡ suc (n - 1)
       count n h = omega arith
+
+  -- the same by the parts that a loop keeps: a row that is refused, and one that is not
+  module _ (st : State) (next rows : ℕ) (h : next < end) where
+    abbrev here : Progress
+    here = record { number = 0; next = next; rows = rows; state = st }
+
+    pub rows-refused : (n : ℕ) → n ≡ fault t st s next → (n ≡ 0 → ⊥) → record { number = n; next = next; rows = rows; state = st } ≡ judgeRows t s end here
+    rows-refused n e d =
+        let p : Progress = record { number = n; next = next; rows = rows; state = st } in
+        let q : judgeRow t s here ≡ p = refused-row t s here (λ z. d (e ∙ z)) ∙ ap (λ (k : ℕ). record { number = k; next = next; rows = rows; state = st }) (sym e) in
+        sym (rows-over p (over-refused end p d)) ∙ sym (ap (judgeRows t s end) q) ∙ sym (rows-step here (not-over end here h refl))
+
+    pub rows-passed : (after : State) (to : ℕ) → fault t st s next ≡ 0 → after ≡ advance t st (rowSet s next) (listed s next) .state → to ≡ rowEnd s next
+        → judgeRows t s end (record { number = 0; next = to; rows = rows + 1; state = after }) ≡ judgeRows t s end here
+    rows-passed after to e a b =
+        ap₂ (λ (x : State) (k : ℕ). judgeRows t s end (record { number = 0; next = k; rows = rows + 1; state = x })) a b
+        ∙ sym (ap (judgeRows t s end) (legal-row t s here e))
+        ∙ sym (rows-step here (not-over end here h refl))

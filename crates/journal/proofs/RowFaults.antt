@@ -1,28 +1,26 @@
--- A row's refusals in their order, as the code finds them; and what a row that is not refused leaves.
-use mathlib.Core.Path.{_≡_, refl, sym, ap, _∙_}
+-- A row's refusals in their order, as the code finds them; and the machine's part in them.
+use mathlib.Core.Path.{_≡_, refl, sym, ap, ap₂, _∙_}
 use mathlib.Core.Bool.{Bool, true, false, _&&_, _||_, not}
 use mathlib.Core.List.{List}
 use Prim.Native.Nat.{ℕ, _≤_, _<_, min}
 use native.Mathlib.Omega.{arith}
-use native.Mathlib.Decide.{ℕ-discrete}
 use lib.ListN.{length}
 use lib.Dec.{ltb, leb}
 use borrow.Author.Tests.{ltb-false}
-use Rattle.graph.specs.Words.{pick, bit, lowest, lowestOr}
-use Rattle.graph.proofs.Facts.{clash, lowestOr-none}
+use Rattle.graph.specs.Words.{bit, row, lowest, lowestOr}
+use Rattle.graph.proofs.Facts.{clash, lowest-none, lowestOr-none}
+use Rattle.graph.proofs.Bits.{bit-zero}
 use Rattle.table.specs.declared.Table.{Table}
 use Rattle.machine.specs.declared.State.{State}
-use Rattle.machine.specs.States.{wait}
+use Rattle.machine.specs.States.{wait, left}
 use Rattle.machine.specs.declared.Ticked.{Ticked}
-use Rattle.machine.specs.Steps.{released, availables, worked}
-use Rattle.machine.specs.Ticking.{advanceTo, advance}
+use Rattle.machine.specs.declared.Offer.{Offer}
+use Rattle.machine.specs.Steps.{released, availables, availableSets, offered}
+use Rattle.machine.specs.Ticking.{advance}
 use Rattle.machine.proofs.Lowest.{lowestOr-is}
 use Rattle.machine.proofs.Searching.{found, found-none}
-use Rattle.journal.specs.declared.Progress.{Progress}
 use Rattle.journal.specs.Rows.{rowSet, rowCount, rowEnd, listed, isStopped, cutShort, wrongMark, ascending, badList, notAvailable, tooFew, passesOver, choiceFault, setFault, fault}
 use Rattle.journal.specs.Listing.{SetTested}
-use Rattle.journal.specs.Judging.{judgeRow}
-use Rattle.journal.proofs.Going.{legal-row, refused-row}
 
 -- ---- those of its bytes and its release set
 module _ (t : Table) (st : State) (s : List ℕ) (at : ℕ) where
@@ -90,6 +88,15 @@ module _ (t : Table) (st : State) (s : List ℕ) (at : ℕ) where
                   first true y z = absurd (clash refl z)
                   first false y z = refl
 
+          -- no task is named
+          pub none-named : t .n ≤ 16 → rowSet s at ≡ 0 → SetTested t st s at 0
+          none-named h z = set-passes
+              16 (sym (lowest-none 16 16 _ (λ i b. off i (leb (t .n) i)))) (omega arith) h
+              16 (sym (lowest-none 16 (t .n) _ (λ i b. off i (ltb 0 (wait st i))))) (omega arith)
+            where
+              off : (i : ℕ) (b : Bool) → bit (rowSet s at) i && b ≡ false
+              off i b = ap (λ (x : ℕ). bit x i && b) z ∙ ap (λ (x : Bool). x && b) (bit-zero i)
+
   -- ---- those of its choice
   pub choice-44 : notAvailable t st s at ≡ true → 44 ≡ choiceFault t st s at
   unfolding choiceFault
@@ -111,38 +118,18 @@ module _ (t : Table) (st : State) (s : List ℕ) (at : ℕ) where
   unfolding tooFew
   few-is r count n e a b = e ∙ ap (λ (k : ℕ). ltb k (min (t .m) n)) a ∙ ap (λ (k : ℕ). ltb (rowCount s at) (min (t .m) k)) b
 
-  pub choice-clear : choiceFault t st s at ≡ 0 → notAvailable t st s at ≡ false
-  unfolding choiceFault
-  choice-clear e = go (notAvailable t st s at) _ e
-    where
-      go : (b : Bool) (n : ℕ) → pick b 44 n ≡ 0 → b ≡ false
-      go true n z = absurd (omega arith)
-      go false n z = refl
+-- ---- what the machine offers, and its tick, by their parts
+module _ (t : Table) (st : State) (set : ℕ) where
+  pub offered-sets : (o : Offer) → o ≡ offered t st set → o .sets ≡ availableSets t (released t st set)
+  unfolding offered
+  offered-sets o e = ap (λ (x : Offer). x .sets) e
 
--- ---- a row that is not refused
-module _ (t : Table) (s : List ℕ) (p : Progress) (e : judgeRow t s p .number ≡ 0) where
-  not-refused : fault t (p .state) s (p .next) ≡ 0
-  not-refused = elim (ℕ-discrete (fault t (p .state) s (p .next)) 0) [
-    | yes q ↦ q
-    | no q ↦ absurd (q (sym (ap (λ (x : Progress). x .number) (refused-row t s p q)) ∙ e))
-  ]
+  pub offered-left : (o : Offer) → o ≡ offered t st set → o .left ≡ row 16 (left (released t st set))
+  unfolding offered
+  offered-left o e = ap (λ (x : Offer). x .left) e
 
-  pub row-further : p .next < judgeRow t s p .next
-  unfolding rowEnd
-  row-further = let n = ap (λ (x : Progress). x .next) (legal-row t s p not-refused) in omega arith
+  pub offered-of : (named : ℕ) (o : Offer) → set ≡ named → o ≡ offered t st set → o ≡ offered t st named
+  offered-of named o a e = e ∙ ap (offered t st) a
 
-  pub row-counted : p .rows ≤ p .next → judgeRow t s p .rows ≤ judgeRow t s p .next
-  row-counted h =
-      let n = ap (λ (x : Progress). x .rows) (legal-row t s p not-refused) in
-      let f = row-further in
-      omega arith
-
--- the machine's tick, by its parts
-pub advanced : (t : Table) (st begun : State) (set named : ℕ) (l chosen : List ℕ) (r : Ticked) → begun ≡ released t st named → set ≡ named → l ≡ chosen
-    → r ≡ advanceTo l (worked t begun set l) → r ≡ advance t st named chosen
-unfolding advance
-advanced t st begun set named l chosen r a b c e =
-    e
-    ∙ ap (λ (x : List ℕ). advanceTo x (worked t begun set x)) c
-    ∙ ap (λ (x : State). advanceTo chosen (worked t x set chosen)) a
-    ∙ ap (λ (x : ℕ). advanceTo chosen (worked t (released t st named) x chosen)) b
+  pub advanced : (named : ℕ) (l chosen : List ℕ) (r : Ticked) → set ≡ named → l ≡ chosen → r ≡ advance t st set l → r ≡ advance t st named chosen
+  advanced named l chosen r a b e = e ∙ ap₂ (λ (n : ℕ) (x : List ℕ). advance t st n x) a b

@@ -44,6 +44,16 @@ module _ (sets : List ℕ) (i u : ℕ) where
   in-set h k =
       sym (ap (λ (b : Bool). b && ltb u 16 && bit (getD sets i 0) u) (lt-ltb i 16 k) ∙ ap (λ (b : Bool). b && bit (getD sets i 0) u) (lt-ltb u 16 h))
 
+-- where each pair is in its task's set, each is a vertex
+pub all-vertices : (s : List ℕ) (at : ℕ) (sets : List ℕ) (r : Bool)
+    → r ≡ all (rowCount s at) (λ j. inSet sets (rowTask s at j) (rowVertex s at j)) → not r ≡ false → AreVertices s at
+unfolding inSet AreVertices
+all-vertices s at sets r q e j b =
+    let a = all-at (rowCount s at) (λ j. inSet sets (rowTask s at j) (rowVertex s at j)) (sym q ∙ not-false r e) j b in
+    let c = both-true (ltb (rowTask s at j) 16 && ltb (rowVertex s at j) 16) _ a in
+    let d = both-true (ltb (rowTask s at j) 16) _ (c .0) in
+    (ltb-true (rowTask s at j) 16 (d .0), ltb-true (rowVertex s at j) 16 (d .1))
+
 module _ (t : Table) (st : State) where
   -- what is in the available sets
   set-at : (i u : ℕ) → i < 16 → u < 16 → bit (getD (availableSets t st) i 0) u ≡ available t st (16 * i + u)

@@ -55,7 +55,7 @@ fn size(set: u16) -> usize
 }
 
 // How many vertices all sets have.
-pub(crate) fn total(sets: [u16; 16]) -> usize
+fn total(sets: [u16; 16]) -> usize
     ensures { λ r. ⌜ r ≡ sum 16 (λ i. ones (getD sets i 0)) ⌝ }
 {
     let mut n: usize = 0;
@@ -65,15 +65,15 @@ pub(crate) fn total(sets: [u16; 16]) -> usize
     n
 }
 
-// 45: whether `count` is below the smaller of m and the available.
-pub(crate) fn is_few(count: usize, m: u8, available: usize) -> bool
-    ensures { λ r. ⌜ r ≡ ltb count (min m available) ⌝ }
+// 45: whether `count` is below the smaller of m and the vertices of all sets, which are counted only where m does not decide.
+pub(crate) fn is_few(count: usize, m: u8, sets: [u16; 16]) -> bool
+    ensures { λ r. ⌜ r ≡ ltb count (min m (sum 16 (λ i. ones (getD sets i 0)))) ⌝ }
 {
     let most = m as usize;
     if most <= count {
         return false;
     }
-    count < available
+    count < total(sets)
 }
 
 // A set without u.

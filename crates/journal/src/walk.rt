@@ -1,14 +1,19 @@
 // Judging row by row: document 02, M-100. The definitions are in specs/Judging.antt.
 ghost use mathlib.Core.Path.{_≡_};
-ghost use Prim.Native.Nat.{_≤_};
+ghost use Prim.Native.Nat.{ℕ, _≤_};
 ghost use lib.ListN.{length};
-ghost use Rattle.journal.specs.Rows.{rowEnd, isStopped, choiceFault};
+ghost use Rattle.table.specs.declared.Table.{Table};
+ghost use Rattle.machine.specs.declared.State.{State};
+ghost use Rattle.machine.specs.Steps.{released, offered};
+ghost use Rattle.machine.specs.Ticking.{advance};
+ghost use Rattle.journal.specs.Rows.{rowSet, rowEnd, listed, isStopped, choiceFault, fault};
 ghost use Rattle.journal.specs.Listing.{SetTested, tooWide, Narrow, judgePiece};
-ghost use Rattle.journal.specs.Judging.{judgeRow, judgeRows, start, ruling, unread, judge};
+ghost use Rattle.journal.specs.Judging.{judgeRows, start, ruling, unread, judge};
 use crate::Progress;
 use crate::Ruling;
 use crate::fields;
 use crate::lists;
+use machine::Offer;
 use machine::Phase;
 use machine::State;
 use table::Outcome;
@@ -43,6 +48,10 @@ fn set_fault(t: Table, st: State, bytes: &[u8], at: usize) -> u8
         return 42;
     }
     let set = fields::set_at(bytes, at);
+    // Most rows name no task.
+    if set == 0 {
+        return 0;
+    }
     if machine::first_beyond(set, t.n) < 16 {
         return 31;
     }
@@ -52,85 +61,78 @@ fn set_fault(t: Table, st: State, bytes: &[u8], at: usize) -> u8
     0
 }
 
-// The refusals of a row's choice, in order; 0 if there is none. The state is that after step 1.
-fn choice_fault(t: Table, st: State, bytes: &[u8], at: usize) -> u8
+// The refusals of a row's choice, in order; 0 if there is none. The offer is that of its release set.
+fn choice_fault(m: u8, offer: Offer, bytes: &[u8], at: usize) -> u8
     requires { ⌜ rowEnd (now bytes) at ≤ length (now bytes) ⌝ }
-    ensures { λ r. ⌜ r ≡ choiceFault t st (now (bytes .entry)) at ⌝ }
+    ensures { λ r. ⌜ ((t : Table) (st : State) (set : ℕ) → m ≡ t .m → offer ≡ offered t st set → r ≡ choiceFault t (released t st set) (now (bytes .entry)) at) ⌝ }
 {
-    let sets = machine::available_sets(t, st);
+    let sets = offer.sets;
     if !lists::are_in(sets, bytes, at) {
         return 44;
     }
-    if lists::is_few(fields::count_at(bytes, at), t.m, lists::total(sets)) {
+    if lists::is_few(fields::count_at(bytes, at), m, sets) {
         return 45;
     }
-    if lists::is_passing_over(sets, machine::ticks_left(st), bytes, at) {
+    let ticks = offer.left;
+    if lists::is_passing_over(sets, ticks, bytes, at) {
         return 46;
     }
     0
 }
 
-// A row that is refused: nothing moves.
-fn refused(p: Progress, number: u8) -> Progress
-    ensures { λ r. ⌜ r ≡ record { number = number; next = p .next; rows = p .rows; state = p .state } ⌝ }
+// A row's refusal, 0 if there is none.
+fn fault(t: Table, st: State, bytes: &[u8], at: usize) -> u8
+    requires { ⌜ Narrow t ⌝ }
+    ensures { λ r. ⌜ r ≡ fault t st (now (bytes .entry)) at ⌝ }
 {
-    let st = p.state;
-    Progress {
-        number: number,
-        next: p.next,
-        rows: p.rows,
-        state: st,
-    }
-}
-
-// A row: its refusal, or the machine's tick with what it lists.
-fn judge_row(t: Table, bytes: &[u8], p: Progress) -> Progress
-    requires { ⌜ Narrow t × (p .rows ≤ p .next) ⌝ }
-    ensures { λ r. ⌜ r ≡ judgeRow t (now (bytes .entry)) p ⌝ }
-{
-    let st = p.state;
-    let at = p.next;
     let early = set_fault(t, st, bytes, at);
     if early != 0 {
-        return refused(p, early);
+        return early;
     }
     let set = fields::set_at(bytes, at);
-    let begun = machine::release(t, st, set);
-    let late = choice_fault(t, begun, bytes, at);
-    if late != 0 {
-        return refused(p, late);
-    }
-    let chosen = lists::chosen_at(bytes, at);
-    let moved = machine::advance_from(t, begun, set, chosen);
-    let after = moved.state;
-    let end = fields::end_at(bytes, at);
-    Progress {
-        number: 0,
-        next: end,
-        rows: p.rows + 1,
-        state: after,
-    }
+    let offer = machine::offered(t, st, set);
+    choice_fault(t.m, offer, bytes, at)
 }
 
-// The rows that begin before place `end`, from a state on, until one is refused.
+// The machine after a row that is not refused: its tick with what the row lists.
+fn state_after(t: Table, st: State, bytes: &[u8], at: usize) -> State
+    requires { ⌜ Narrow t × (fault t st (now bytes) at ≡ 0) ⌝ }
+    ensures { λ r. ⌜ r ≡ advance t st (rowSet (now (bytes .entry)) at) (listed (now (bytes .entry)) at) .state ⌝ }
+{
+    let set = fields::set_at(bytes, at);
+    let chosen = lists::chosen_at(bytes, at);
+    machine::advance(t, st, set, chosen).state
+}
+
+// The rows that begin before place `end`, from a state on, until one is refused; for this one nothing moves.
 fn judge_rows(t: Table, bytes: &[u8], end: usize, st: State) -> Progress
     requires { ⌜ Narrow t ⌝ }
     ensures { λ r. ⌜ r ≡ judgeRows t (now (bytes .entry)) end (start st) ⌝ }
 {
-    let mut p = Progress {
-        number: 0,
-        next: 0,
-        rows: 0,
-        state: st,
-    };
-    while p.next < end {
-        let q = judge_row(t, bytes, p);
-        if q.number != 0 {
-            return q;
+    let mut state = st;
+    let mut next: usize = 0;
+    let mut rows: usize = 0;
+    while next < end {
+        let number = fault(t, state, bytes, next);
+        if number != 0 {
+            return Progress {
+                number: number,
+                next: next,
+                rows: rows,
+                state: state,
+            };
         }
-        p = q;
+        let after = state_after(t, state, bytes, next);
+        state = after;
+        next = fields::end_at(bytes, next);
+        rows += 1;
     }
-    p
+    Progress {
+        number: 0,
+        next: next,
+        rows: rows,
+        state: state,
+    }
 }
 
 // The ruling at the end.

@@ -30,6 +30,10 @@ use Rattle.machine.proofs.showing.live_set.Kinds as live-set-kinds
 use Rattle.machine.proofs.showing.live_set.Reads as live-set-reads
 use Rattle.machine.proofs.ticking.advance_from.Kinds as advance-from-kinds
 use Rattle.machine.proofs.ticking.advance_from.Reads as advance-from-reads
+use Rattle.machine.proofs.ticking.advance.Kinds as advance-kinds
+use Rattle.machine.proofs.ticking.advance.Reads as advance-reads
+use Rattle.machine.proofs.ticking.offered.Kinds as offered-kinds
+use Rattle.machine.proofs.ticking.offered.Reads as offered-reads
 use Rattle.machine.proofs.ticking.first_beyond.Kinds as first-beyond-kinds
 use Rattle.machine.proofs.ticking.first_beyond.Reads as first-beyond-reads
 use Rattle.machine.proofs.ticking.first_early.Kinds as first-early-kinds
@@ -62,6 +66,12 @@ live-set-one κs args x y s t = by-definition
 
 pub advance-from-one : OneResult 0 advance-from-kinds.ps advance-from-kinds.r advance-from-reads.Post
 advance-from-one κs args x y s t = by-definition
+
+pub advance-one : OneResult 0 advance-kinds.ps advance-kinds.r advance-reads.Post
+advance-one κs args x y s t = by-definition
+
+pub offered-one : OneResult 0 offered-kinds.ps offered-kinds.r offered-reads.Post
+offered-one κs args x y s t = by-definition
 
 pub first-beyond-one : OneResult 0 first-beyond-kinds.ps first-beyond-kinds.r first-beyond-reads.Post
 first-beyond-one κs args x y s t = by-definition

@@ -6,11 +6,12 @@ ghost use lib.Dec.{ltb, leb};
 ghost use Rattle.graph.specs.Words.{bit, lowest};
 ghost use Rattle.machine.specs.States.{waitOf, wait};
 ghost use Rattle.table.specs.Good.{GoodTable};
-ghost use Rattle.machine.specs.Steps.{ownChoice, listed, worked};
+ghost use Rattle.machine.specs.Steps.{offered, ownChoice, listed, worked};
 ghost use Rattle.machine.specs.Choosing.{replyOf, refusalOf};
-ghost use Rattle.machine.specs.Ticking.{nobody, pairOf, runList, ticked, judged, advanceTo, refuse, tickOn};
+ghost use Rattle.machine.specs.Ticking.{nobody, pairOf, runList, ticked, judged, advanceTo, advance, refuse, tickOn};
 use crate::Answer;
 use crate::Chosen;
+use crate::Offer;
 use crate::Pair;
 use crate::Phase;
 use crate::Reply;
@@ -130,6 +131,24 @@ pub fn advance_from(t: Table, st: State, named: u16, chosen: Chosen) -> Ticked
     let done = steps::finished_set(after);
     let rest = steps::end_jobs(after, done);
     judge(chosen, done, rest)
+}
+
+// Steps 1, 4, 5 and 6, with the vertices that a choice lists.
+pub fn advance(t: Table, st: State, named: u16, chosen: Chosen) -> Ticked
+    ensures { λ r. ⌜ r ≡ advance t st named (listed chosen) ⌝ }
+{
+    advance_from(t, steps::release(t, st, named), named, chosen)
+}
+
+// Step 2, once step 1 is made, and what step 3 ranks by.
+pub fn offered(t: Table, st: State, named: u16) -> Offer
+    ensures { λ r. ⌜ r ≡ offered t st named ⌝ }
+{
+    let begun = steps::release(t, st, named);
+    Offer {
+        sets: choosing::available_sets(t, begun),
+        left: choosing::ticks_left(begun),
+    }
 }
 
 // Whether number i is named though it is no task.

@@ -1,92 +1,85 @@
-use mathlib.Core.Path.{_≡_, sym, _∙_}
-use mathlib.Core.Bool.{false}
+use mathlib.Core.Path.{_≡_, refl, sym, ap, _∙_}
+use mathlib.Core.Bool.{not, false}
+use Prim.Native.Nat.{ℕ, min}
+use lib.ListN.{getD}
+use lib.Dec.{ltb}
+use lib.Count.{ones}
 use native.Mathlib.Omega.{arith}
 use borrow.Author.Needs.{needs}
+use Rattle.graph.specs.Words.{sum}
+use Rattle.table.specs.declared.Table.{Table}
+use Rattle.machine.specs.declared.State.{State}
+use Rattle.machine.specs.Steps.{released, offered}
 use Rattle.journal.specs.Rows.{rowEnd, listed, notAvailable, tooFew, passesOver}
-use Rattle.journal.proofs.SetTests.{all-in, each-vertex, all-counted}
-use Rattle.journal.proofs.RowFaults.{choice-44, choice-45, choice-46, choice-0, few-is}
+use Rattle.journal.proofs.SetTests.{all-in, all-vertices, all-counted}
+use Rattle.journal.proofs.RowFaults.{choice-44, choice-45, choice-46, choice-0, few-is, offered-sets, offered-left}
 use Rattle.journal.proofs.walk.choice_fault.Statement.{statement}
 use Rattle.journal.proofs.walk.choice_fault.Tie as tie
 
--- what is known once each test was passed
-clear : (c : tie.Else1) → notAvailable (c .before .before .before .before .args .t) (c .before .before .before .before .args .st) (c .before .before .before .before .args .bytes .now) (c .before .before .before .before .args .at) ≡ false
-clear c =
-    let a = c .before .before .before .before .args in
-    let k = c .before .before .available-sets in
-    sym (all-in (a .t) (a .st) (a .bytes .now) (a .at) (k .result) (c .before .are-in .result) (k .ensures) (c .before .are-in .ensures)) ∙ c .if1 .left
+module _ (t : Table) (st : State) (set : ℕ) where
+  -- the tests, of the state after step 1
+  lost : (c : tie.After-are-in) → c .before .before .before .args .offer ≡ offered t st set → not (c .are-in .result) ≡ notAvailable t (released t st set) (c .before .before .before .args .bytes .now) (c .before .before .before .args .at)
+  lost c o =
+      let a = c .before .before .before .args in
+      all-in t (released t st set) (a .bytes .now) (a .at) (a .offer .sets) (c .are-in .result) (offered-sets t st set (a .offer) o) (c .are-in .ensures)
 
-few : (c : tie.After-is-few) → c .is-few .result ≡ tooFew (c .before .before .before .before .before .before .before .args .t) (c .before .before .before .before .before .before .before .args .st) (c .before .before .before .before .before .before .before .args .bytes .now) (c .before .before .before .before .before .before .before .args .at)
-few c =
-    let a = c .before .before .before .before .before .before .before .args in
-    let k = c .before .before .before .before .before .available-sets in
-    let n = c .before .total in
-    let j = c .before .before .count-at in
-    few-is (a .t) (a .st) (a .bytes .now) (a .at) (c .is-few .result) (j .result) (n .result) (c .is-few .ensures) (j .ensures .0)
-    (all-counted (a .t) (a .st) (k .result) (n .result) (k .ensures) (n .ensures))
+  few : (c : tie.After-is-few) → c .before .before .before .before .before .before .args .m ≡ t .m → c .before .before .before .before .before .before .args .offer ≡ offered t st set → c .is-few .result ≡ tooFew t (released t st set) (c .before .before .before .before .before .before .args .bytes .now) (c .before .before .before .before .before .before .args .at)
+  few c e o =
+      let a = c .before .before .before .before .before .before .args in
+      let j = c .before .count-at in
+      let n = sum 16 (λ i. ones (getD (a .offer .sets) i 0)) in
+      few-is t (released t st set) (a .bytes .now) (a .at) (c .is-few .result) (j .result) n
+      (c .is-few .ensures ∙ ap (λ (m : ℕ). ltb (j .result) (min m n)) e) (j .ensures .0)
+      (all-counted t (released t st set) (a .offer .sets) n (offered-sets t st set (a .offer) o) refl)
 
-enough : (c : tie.Else2) → tooFew (c .before .before .before .before .before .before .before .before .args .t) (c .before .before .before .before .before .before .before .before .args .st) (c .before .before .before .before .before .before .before .before .args .bytes .now) (c .before .before .before .before .before .before .before .before .args .at) ≡ false
-enough c = sym (few (c .before)) ∙ c .if2 .left
+  over : (c : tie.After-is-passing-over) → c .before .before .before .before .before .before .before .before .before .args .offer ≡ offered t st set → c .is-passing-over .result ≡ passesOver t (released t st set) (listed (c .before .before .before .before .before .before .before .before .before .args .bytes .now) (c .before .before .before .before .before .before .before .before .before .args .at))
+  over c o =
+      let a = c .before .before .before .before .before .before .before .before .before .args in
+      c .is-passing-over .ensures t (released t st set) (offered-sets t st set (a .offer) o) (offered-left t st set (a .offer) o)
 
-over : (c : tie.After-is-passing-over) → c .is-passing-over .result ≡ passesOver (c .before .before .before .before .before .before .before .before .before .before .args .t) (c .before .before .before .before .before .before .before .before .before .before .args .st) (listed (c .before .before .before .before .before .before .before .before .before .before .args .bytes .now) (c .before .before .before .before .before .before .before .before .before .before .args .at))
-over c = c .is-passing-over .ensures (c .before .before .before .before .before .before .before .before .before .before .args .t) (c .before .before .before .before .before .before .before .before .before .before .args .st) (c .before .before .before .before .before .before .before .before .available-sets .ensures) (c .before .ticks-left .ensures)
+  -- what is known once each was passed
+  clear : (c : tie.Else1) → c .before .before .before .before .args .offer ≡ offered t st set → notAvailable t (released t st set) (c .before .before .before .before .args .bytes .now) (c .before .before .before .before .args .at) ≡ false
+  clear c o = sym (lost (c .before) o) ∙ c .if1 .left
 
-available-sets-requires : tie.Need-available-sets-requires
-available-sets-requires c κs = search needs
+  enough : (c : tie.Else2) → c .before .before .before .before .before .before .before .args .m ≡ t .m → c .before .before .before .before .before .before .before .args .offer ≡ offered t st set → tooFew t (released t st set) (c .before .before .before .before .before .before .before .args .bytes .now) (c .before .before .before .before .before .before .before .args .at) ≡ false
+  enough c e o = sym (few (c .before) e o) ∙ c .if2 .left
 
 are-in-requires : tie.Need-are-in-requires
 are-in-requires c κs = search needs
 
 returns : tie.Need-returns
-returns c =
+returns c t st set e o =
     let a = c .before .before .before .before .args in
-    let k = c .before .before .available-sets in
-    choice-44 (a .t) (a .st) (a .bytes .now) (a .at) (sym (all-in (a .t) (a .st) (a .bytes .now) (a .at) (k .result) (c .before .are-in .result) (k .ensures) (c .before .are-in .ensures)) ∙ c .if1 .taken)
+    choice-44 t (released t st set) (a .bytes .now) (a .at) (sym (lost t st set (c .before) o) ∙ c .if1 .taken)
 
 count-at-requires : tie.Need-count-at-requires
 unfolding rowEnd
 count-at-requires c κs = omega arith
 
-total-requires : tie.Need-total-requires
-total-requires c κs = search needs
-
 is-few-requires : tie.Need-is-few-requires
 is-few-requires c κs = search needs
 
 returns-2 : tie.Need-returns-2
-returns-2 c =
-    let a = c .before .before .before .before .before .before .before .before .args in
-    choice-45 (a .t) (a .st) (a .bytes .now) (a .at) (clear (c .before .before .before .before)) (sym (few (c .before)) ∙ c .if2 .taken)
-
-ticks-left-requires : tie.Need-ticks-left-requires
-ticks-left-requires c κs = search needs
+returns-2 c t st set e o =
+    let a = c .before .before .before .before .before .before .before .args in
+    choice-45 t (released t st set) (a .bytes .now) (a .at) (clear t st set (c .before .before .before) o) (sym (few t st set (c .before) e o) ∙ c .if2 .taken)
 
 is-passing-over-requires : tie.Need-is-passing-over-requires
 is-passing-over-requires c κs =
-    let a = c .before .before .before .before .before .before .before .before .before .args in
-    (c .before .before .before .before .before .before .before .before .before .pre, each-vertex (a .t) (a .st) (a .bytes .now) (a .at) (clear (c .before .before .before .before .before)))
+    let a = c .before .before .before .before .before .before .before .before .args in
+    let k = c .before .before .before .before .before .are-in in
+    (c .before .before .before .before .before .before .before .before .pre, all-vertices (a .bytes .now) (a .at) (a .offer .sets) (k .result) (k .ensures) (c .before .before .before .before .if1 .left))
 
 returns-3 : tie.Need-returns-3
-returns-3 c =
-    let a = c .before .before .before .before .before .before .before .before .before .before .before .args in
-    choice-46 (a .t) (a .st) (a .bytes .now) (a .at) (clear (c .before .before .before .before .before .before .before)) (enough (c .before .before .before)) (sym (over (c .before)) ∙ c .if3 .taken)
+returns-3 c t st set e o =
+    let a = c .before .before .before .before .before .before .before .before .before .before .args in
+    choice-46 t (released t st set) (a .bytes .now) (a .at) (clear t st set (c .before .before .before .before .before .before) o) (enough t st set (c .before .before .before) e o) (sym (over t st set (c .before) o) ∙ c .if3 .taken)
 
 returns-4 : tie.Need-returns-4
-returns-4 c =
-    let a = c .before .before .before .before .before .before .before .before .before .before .before .args in
-    choice-0 (a .t) (a .st) (a .bytes .now) (a .at) (clear (c .before .before .before .before .before .before .before)) (enough (c .before .before .before)) (sym (over (c .before)) ∙ c .if3 .left)
+returns-4 c t st set e o =
+    let a = c .before .before .before .before .before .before .before .before .before .before .args in
+    choice-0 t (released t st set) (a .bytes .now) (a .at) (clear t st set (c .before .before .before .before .before .before) o) (enough t st set (c .before .before .before) e o) (sym (over t st set (c .before) o) ∙ c .if3 .left)
 
 pub choice-fault-spec : {M : Type 1} → statement M
 choice-fault-spec =
-    tie.close
-    (tie.spec
-    available-sets-requires
-    are-in-requires
-    returns
-    count-at-requires
-    total-requires
-    is-few-requires
-    returns-2
-    ticks-left-requires
-    is-passing-over-requires
-    returns-3
-    returns-4)
+    tie.close (tie.spec are-in-requires returns count-at-requires is-few-requires returns-2 is-passing-over-requires returns-3 returns-4)

@@ -8,7 +8,7 @@ use borrow.Author.Needs.{needs}
 use Rattle.graph.specs.Words.{bit, lowest}
 use Rattle.machine.specs.States.{wait}
 use Rattle.journal.specs.Rows.{rowSet, rowEnd, isStopped, cutShort, wrongMark, badList}
-use Rattle.journal.proofs.RowFaults.{is-whole, stopped-47, cut-40, mark-41, list-42, beyond-31, early-33, set-passes}
+use Rattle.journal.proofs.RowFaults.{is-whole, stopped-47, cut-40, mark-41, list-42, beyond-31, early-33, set-passes, none-named}
 use Rattle.journal.proofs.walk.set_fault.Statement.{statement}
 use Rattle.journal.proofs.walk.set_fault.Tie as tie
 
@@ -32,15 +32,15 @@ unfolding badList
 in-order c = sym (c .before .is-bad-list .ensures) ∙ c .if4 .left
 
 -- the searches, of the row's own set
-above : (c : tie.After-first-beyond) → c .first-beyond .result ≡ lowest 16 16 (λ i. bit (rowSet (c .before .before .before .before .before .before .before .before .before .before .before .args .bytes .now) (c .before .before .before .before .before .before .before .before .before .before .before .args .at)) i && leb (c .before .before .before .before .before .before .before .before .before .before .before .args .t .n) i)
+above : (c : tie.After-first-beyond) → c .first-beyond .result ≡ lowest 16 16 (λ i. bit (rowSet (c .before .before .before .before .before .before .before .before .before .before .before .before .args .bytes .now) (c .before .before .before .before .before .before .before .before .before .before .before .before .args .at)) i && leb (c .before .before .before .before .before .before .before .before .before .before .before .before .args .t .n) i)
 above c =
-    let a = c .before .before .before .before .before .before .before .before .before .before .before .args in
-    c .first-beyond .ensures ∙ ap (λ (x : ℕ). lowest 16 16 (λ i. bit x i && leb (a .t .n) i)) (c .before .set-at .ensures)
+    let a = c .before .before .before .before .before .before .before .before .before .before .before .before .args in
+    c .first-beyond .ensures ∙ ap (λ (x : ℕ). lowest 16 16 (λ i. bit x i && leb (a .t .n) i)) (c .before .before .set-at .ensures)
 
-early : (c : tie.After-first-early) → c .first-early .result ≡ lowest 16 (c .before .before .before .before .before .before .before .before .before .before .before .before .before .args .t .n) (λ i. bit (rowSet (c .before .before .before .before .before .before .before .before .before .before .before .before .before .args .bytes .now) (c .before .before .before .before .before .before .before .before .before .before .before .before .before .args .at)) i && ltb 0 (wait (c .before .before .before .before .before .before .before .before .before .before .before .before .before .args .st) i))
+early : (c : tie.After-first-early) → c .first-early .result ≡ lowest 16 (c .before .before .before .before .before .before .before .before .before .before .before .before .before .before .args .t .n) (λ i. bit (rowSet (c .before .before .before .before .before .before .before .before .before .before .before .before .before .before .args .bytes .now) (c .before .before .before .before .before .before .before .before .before .before .before .before .before .before .args .at)) i && ltb 0 (wait (c .before .before .before .before .before .before .before .before .before .before .before .before .before .before .args .st) i))
 early c =
-    let a = c .before .before .before .before .before .before .before .before .before .before .before .before .before .args in
-    c .first-early .ensures ∙ ap (λ (x : ℕ). lowest 16 (a .t .n) (λ i. bit x i && ltb 0 (wait (a .st) i))) (c .before .before .before .set-at .ensures)
+    let a = c .before .before .before .before .before .before .before .before .before .before .before .before .before .before .args in
+    c .first-early .ensures ∙ ap (λ (x : ℕ). lowest 16 (a .t .n) (λ i. bit x i && ltb 0 (wait (a .st) i))) (c .before .before .before .before .set-at .ensures)
 
 is-stopped-requires : tie.Need-is-stopped-requires
 is-stopped-requires c κs = search needs
@@ -80,34 +80,41 @@ set-at-requires : tie.Need-set-at-requires
 unfolding rowEnd
 set-at-requires c κs = let w = whole (c .before .before .before .before) in omega arith
 
+returns-5 : tie.Need-returns-5
+returns-5 c =
+    let a = c .before .before .before .before .before .before .before .before .before .before .before .args in
+    let d = c .before .before in
+    none-named (a .t) (a .st) (a .bytes .now) (a .at) (runs (d .before .before .before .before .before .before)) (uncut (d .before .before .before .before)) (marked (d .before .before)) (in-order d)
+    (c .before .before .before .before .before .before .before .before .before .before .before .pre .n-high) (sym (c .before .set-at .ensures) ∙ c .if5 .taken)
+
 first-beyond-requires : tie.Need-first-beyond-requires
 first-beyond-requires c κs = search needs
 
-returns-5 : tie.Need-returns-5
-returns-5 c =
-    let a = c .before .before .before .before .before .before .before .before .before .before .before .before .args in
-    let d = c .before .before .before in
+returns-6 : tie.Need-returns-6
+returns-6 c =
+    let a = c .before .before .before .before .before .before .before .before .before .before .before .before .before .args in
+    let d = c .before .before .before .before in
     beyond-31 (a .t) (a .st) (a .bytes .now) (a .at) (runs (d .before .before .before .before .before .before)) (uncut (d .before .before .before .before)) (marked (d .before .before)) (in-order d)
-    (c .before .first-beyond .result) (above (c .before)) (c .if5 .taken)
+    (c .before .first-beyond .result) (above (c .before)) (c .if6 .taken)
 
 first-early-requires : tie.Need-first-early-requires
 first-early-requires c κs = search needs
 
-returns-6 : tie.Need-returns-6
-returns-6 c =
-    let a = c .before .before .before .before .before .before .before .before .before .before .before .before .before .before .args in
-    let d = c .before .before .before .before .before in
-    early-33 (a .t) (a .st) (a .bytes .now) (a .at) (runs (d .before .before .before .before .before .before)) (uncut (d .before .before .before .before)) (marked (d .before .before)) (in-order d)
-    (c .before .before .before .first-beyond .result) (above (c .before .before .before)) (c .before .before .if5 .left) (c .before .before .before .before .before .before .before .before .before .before .before .before .before .before .pre .n-high)
-    (c .before .first-early .result) (early (c .before)) (c .if6 .taken)
-
 returns-7 : tie.Need-returns-7
 returns-7 c =
-    let a = c .before .before .before .before .before .before .before .before .before .before .before .before .before .before .args in
-    let d = c .before .before .before .before .before in
+    let a = c .before .before .before .before .before .before .before .before .before .before .before .before .before .before .before .args in
+    let d = c .before .before .before .before .before .before in
+    early-33 (a .t) (a .st) (a .bytes .now) (a .at) (runs (d .before .before .before .before .before .before)) (uncut (d .before .before .before .before)) (marked (d .before .before)) (in-order d)
+    (c .before .before .before .first-beyond .result) (above (c .before .before .before)) (c .before .before .if6 .left) (c .before .before .before .before .before .before .before .before .before .before .before .before .before .before .before .pre .n-high)
+    (c .before .first-early .result) (early (c .before)) (c .if7 .taken)
+
+returns-8 : tie.Need-returns-8
+returns-8 c =
+    let a = c .before .before .before .before .before .before .before .before .before .before .before .before .before .before .before .args in
+    let d = c .before .before .before .before .before .before in
     set-passes (a .t) (a .st) (a .bytes .now) (a .at) (runs (d .before .before .before .before .before .before)) (uncut (d .before .before .before .before)) (marked (d .before .before)) (in-order d)
-    (c .before .before .before .first-beyond .result) (above (c .before .before .before)) (c .before .before .if5 .left) (c .before .before .before .before .before .before .before .before .before .before .before .before .before .before .pre .n-high)
-    (c .before .first-early .result) (early (c .before)) (c .if6 .left)
+    (c .before .before .before .first-beyond .result) (above (c .before .before .before)) (c .before .before .if6 .left) (c .before .before .before .before .before .before .before .before .before .before .before .before .before .before .before .pre .n-high)
+    (c .before .first-early .result) (early (c .before)) (c .if7 .left)
 
 pub set-fault-spec : {M : Type 1} → statement M
 set-fault-spec =
@@ -122,8 +129,9 @@ set-fault-spec =
     is-bad-list-requires
     returns-4
     set-at-requires
-    first-beyond-requires
     returns-5
-    first-early-requires
+    first-beyond-requires
     returns-6
-    returns-7)
+    first-early-requires
+    returns-7
+    returns-8)
