@@ -1,5 +1,6 @@
 -- The examples.
 pub mod Computed
+pub mod AtOnce
 pub mod Lines
 pub mod Marks
 -- Demand 3 is not empty.
