@@ -16,6 +16,8 @@ use Rattle.graph.proofs.Facts.{clash, both-true}
 use Rattle.table.specs.declared.Table.{Table}
 use Rattle.table.specs.declared.Outcome.{Outcome}
 use Rattle.table.specs.declared.Outcome.the-variants.{Read, Short, Mark, Range, Ticks, Order, Edge, Cycle, Extra}
+use Rattle.table.specs.declared.Written.{Written}
+use Rattle.table.specs.declared.Written.the-variants.{Done, Refused, Unused, Room}
 use Rattle.table.specs.declared.Field.{Field}
 use Rattle.table.specs.declared.Field.the-variants.{Stop, Got}
 use Rattle.table.specs.declared.EdgesRead.{EdgesRead}
@@ -24,9 +26,11 @@ use Rattle.table.specs.declared.TableRead.{TableRead}
 use Rattle.checks.specs.declared.Checked.{Checked}
 use Rattle.table.specs.Memory.{noSucc, noCosts, noTasks, noRow, task, vertices, D, T, succ, cost}
 use Rattle.table.specs.Reading.{onward, whenRead, ranged, notUnder, periodAt, costsAt, addEdge, edgesAt, badTask, partsAt, taskAt, badTable, withTask, tasksAt, tableAt, refused, ending, read}
-use Rattle.table.specs.Writing.{bytes4, edgeBytes, encodeTask, encode}
+use Rattle.table.specs.Numbers.{number}
+use Rattle.table.specs.Writing.{bytes4, edgeBytes, encodeTask, encode, unusedZero, writing}
 use Rattle.checks.specs.Checking.{stopped, keysOf, edgeTested, edgesTested, costsTested, usedRows, partsTested, taskTested, tasksTested, checked}
 use Rattle.table.specs.Good.{Typed}
+use Rattle.checks.proofs.Numbers.{OwnNumber, checked-own}
 use Rattle.checks.proofs.Cells.{byte-as, ticks-as, edge-as}
 use Rattle.table.proofs.FieldForth.{at-eq, read-mark, next-four}
 use Rattle.table.proofs.Places.{task-length, at-mark, at-v, at-e, at-D, at-T, at-costs, at-edges}
@@ -287,3 +291,25 @@ module _ (t : Table) (typed : Typed t) where
   -- and where they refuse nothing, they end at the file's length
   pub checked-length : checked t .outcome ≡ Read → checked t .next ≡ length (encode t)
   checked-length h = table-as .1 h .1
+
+  -- "The writer refuses a table with 3 to 7": it never answers a reader's 1, 2 or 8
+  pub writer-number : (room : ℕ) (o : Outcome) → writing t room ≡ Refused o → (3 ≤ number o) × (number o ≤ 7)
+  unfolding writing number OwnNumber
+  writer-number room o = rw (← checked-is) (go (checked t .outcome) (checked-own t))
+    where
+      none : (b c : Bool) (l : ℕ) → pick b (pick c (Done l) (Room l)) Unused ≡ Refused o → ⊥
+      none true true l e = let z : _≡_ {A = ℕ} 0 1 = cc in omega arith
+      none true false l e = let z : _≡_ {A = ℕ} 0 1 = cc in omega arith
+      none false c l e = let z : _≡_ {A = ℕ} 0 1 = cc in omega arith
+
+      go : (q : Outcome) → OwnNumber q → whenRead q Refused (λ _. pick (unusedZero t) (pick (leb (length (encode t)) room) (Done (length (encode t))) (Room (length (encode t)))) Unused) ≡ Refused o
+          → (3 ≤ number o) × (number o ≤ 7)
+      go Read h e = absurd (none (unusedZero t) (leb (length (encode t)) room) (length (encode t)) e)
+      go (Short p) h e = absurd h
+      go (Mark p) h e = absurd h
+      go (Range p) h e = let z : Range p ≡ o = cc in rw (← z) (omega arith, omega arith)
+      go (Ticks p) h e = let z : Ticks p ≡ o = cc in rw (← z) (omega arith, omega arith)
+      go (Order p) h e = let z : Order p ≡ o = cc in rw (← z) (omega arith, omega arith)
+      go (Edge p) h e = let z : Edge p ≡ o = cc in rw (← z) (omega arith, omega arith)
+      go (Cycle p) h e = let z : Cycle p ≡ o = cc in rw (← z) (omega arith, omega arith)
+      go (Extra p) h e = absurd h

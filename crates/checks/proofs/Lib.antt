@@ -2,6 +2,7 @@
 pub mod Cells
 pub mod Keys
 pub mod Rows
+pub mod Numbers
 pub mod Checks
 pub mod Otherwise
 pub mod TestLaws

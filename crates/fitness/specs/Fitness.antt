@@ -1,5 +1,6 @@
 -- Which numbers of a task fit: document 01, "A running state fits if ..", with document 02's M-103 and M-104, over the rows of 256 numbers and a
--- task's entry, any numbers in them. That the machine's rules say the same of a good table's task is in crate machine, proofs/Fits.
+-- task's entry, any numbers in them, as the code asks. Nobody has to believe it: the rule is the machine's Fitting.antt, which says the
+-- same of each task of a good table (theorem `same-rules`, crate machine, proofs/Fits.antt).
 use mathlib.Core.Bool.{Bool, _&&_, _||_, not}
 use mathlib.Core.List.{List}
 use Prim.Native.Nat.{ℕ, _+_, _*_, min}

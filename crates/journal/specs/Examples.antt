@@ -15,6 +15,10 @@ task time cost = 0x54 ∷ 0x4B ∷ 1 ∷ 0 ∷ time ∷ 0 ∷ 0 ∷ 0 ∷ time �
 unfoldable pub three : List ℕ
 three = 0x54 ∷ 0x42 ∷ 1 ∷ 3 ∷ (task 3 1 ++ task 2 1 ++ task 2 1)
 
+-- the same tasks with m 2
+unfoldable pub pair : List ℕ
+pair = 0x54 ∷ 0x42 ∷ 2 ∷ 3 ∷ (task 3 1 ++ task 2 1 ++ task 2 1)
+
 -- m 1; a task of cost 2 that has 1 tick: it misses
 unfoldable pub late : List ℕ
 late = 0x54 ∷ 0x42 ∷ 1 ∷ 1 ∷ task 1 2
@@ -75,6 +79,9 @@ examples =
     ∷ refuses three (begins 1 ++ (0x4A ∷ 0x4A ∷ 0 ∷ 0 ∷ 0 ∷ [])) 41 1
     -- 42 count above m, or pairs not ascending
     ∷ refuses three (line 7 2 (1 ∷ 0 ∷ 2 ∷ 0 ∷ [])) 42 0
+    ∷ refuses pair (line 7 2 (2 ∷ 0 ∷ 1 ∷ 0 ∷ [])) 42 0
+    ∷ refuses pair (line 7 2 (1 ∷ 0 ∷ 1 ∷ 0 ∷ [])) 42 0
+    ∷ accepts pair (line 7 2 (1 ∷ 0 ∷ 2 ∷ 0 ∷ [])) 1 false
     -- 31, also where task 2 has to wait; 33
     ∷ refuses three (begins 1 ++ line 12 1 (2 ∷ 0 ∷ [])) 31 1
     ∷ refuses three (begins 1 ++ line 4 1 (2 ∷ 0 ∷ [])) 33 1

@@ -57,7 +57,7 @@ ruling p =
     (record { number = 0; place = 0; row = 0; rows = p .rows; missed = isStopped (p .state .phase) })
     (record { number = p .number; place = 0; row = p .rows; rows = 0; missed = false })
 
--- on a table: "starting idle", the clock at 0 (on which nothing depends)
+-- on a table: "starting idle", the clock at 0, on which nothing depends (`run-too`, proofs/Clocks.antt)
 unfoldable pub judgeOn : Table → List ℕ → Ruling
 judgeOn t s = ruling (judgeRows t s (length s) (start (zeros 0 Running)))
 

@@ -1,4 +1,5 @@
--- The lines that show a table run, as bytes: "one line each (ending in byte 10), fields parted by one space".
+-- The lines that show a table run, as bytes: "one line each (ending in byte 10), fields parted by one space". Documents 01 and 02 have no
+-- such lines: what is quoted here and in Watching.antt is their own form.
 use mathlib.Core.List.{List, [], _∷_, _++_}
 use Prim.Native.Nat.{ℕ, _-_}
 use lib.Dec.{eqb}

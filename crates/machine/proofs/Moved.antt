@@ -34,7 +34,7 @@ pub record Moved (choose : Table → State → List ℕ) (t : Table) (st : State
 abbrev pub StoppedThere : State → Ticked → Type 0
 StoppedThere st x = x .state ≡ zeros (wrap (st .clock + 1)) (Stopped (x .answer .reply .task))
 
--- "With 0 or 34 come the vertices that ran and the set of tasks finished"
+-- "With 0 or 34 come the vertices that ran, .. and the set of tasks finished"
 pub record Tells (choose : Table → State → List ℕ) (t : Table) (st : State) (named : ℕ) (x : Ticked) : Type 0 where
   pub ran : x .answer .ran ≡ runList (chosenIn choose t st named)
   pub done : x .answer .finished ≡ finished (afterWork choose t st named)

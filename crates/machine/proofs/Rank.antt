@@ -16,7 +16,7 @@ use Rattle.machine.specs.Steps.{before}
 abbrev pub ByTask : ℕ → ℕ → Type 0
 ByTask a b = (a / 16 < b / 16) ⊎ ((a / 16 ≡ b / 16) × (a % 16 < b % 16))
 
--- "ranked by ticks left, then task, then vertex": a ranks before b
+-- "ranked by ticks left .., then task, then vertex": a ranks before b
 abbrev pub RanksBefore : State → ℕ → ℕ → Type 0
 RanksBefore st a b = (left st (a / 16) < left st (b / 16)) ⊎ ((left st (a / 16) ≡ left st (b / 16)) × ByTask a b)
 

@@ -60,11 +60,12 @@ stateOf s = record {
   work = s .work;
 }
 
--- WHICH ARE STATES: each such byte is 0 or 1, and no number stands where the state has none, "a task of a running one"
+-- WHICH ARE STATES: each such byte is 0 or 1, and no number stands where the state has none (docs/DECISIONS.md, D33). A running one has
+-- no task
 unfoldable pub properPhase : ℕ → ℕ → Bool
 properPhase stopped at = pick (eqb stopped 0) (eqb at 0) (eqb stopped 1)
 
--- "a deadline of an idle task"
+-- an idle task has no deadline
 unfoldable pub properTask : FaceTask → Bool
 properTask a = pick (eqb (a .live) 0) (eqb (a .deadline) 0) (eqb (a .live) 1)
 

@@ -75,19 +75,19 @@ pub data Step (file : List ℕ) (st : State) (named : ℕ) (a : Answer) (next : 
   by-value : (x : Ticked) → Ticks file st named x → x .answer ≡ a → x .state ≡ next → Step file st named a next
   on-lent : Moves file st named a next → Step file st named a next
 
--- A RUN: the state that `open` returned, then ticks with any release sets
-pub record Run (file : List ℕ) (clock : ℕ) : Type 2 where
+-- A RUN of N ticks: the state that `open` returned, then ticks with any release sets. Of what comes after them nothing is asked.
+pub record Run (file : List ℕ) (clock N : ℕ) : Type 2 where
   pub opened : Opened
   pub opens : Opens file clock opened
   pub state : ℕ → State
   pub first : state 0 ≡ opened .state
   pub named : ℕ → ℕ
   pub answer : ℕ → Answer
-  pub steps : (x : ℕ) → Step file (state x) (named x) (answer x) (state (suc x))
+  pub steps : (x : ℕ) → x < N → Step file (state x) (named x) (answer x) (state (suc x))
 
 -- THE COROLLARY. A clock has 32 bits and a release set sixteen.
 abbrev pub CallsNever34 : Type 2
 CallsNever34 =
     (file : List ℕ) (v : Verdict) → Judges file v → v .number ≡ 0
-    → (clock : ℕ) → clock < 2 ^ 32 → (run : Run file clock) → ((x : ℕ) → run .named x < 2 ^ 16)
-    → (x : ℕ) → run .answer x .reply .number ≡ 34 → ⊥
+    → (clock : ℕ) → clock < 2 ^ 32 → (N : ℕ) (run : Run file clock N) → ((x : ℕ) → x < N → run .named x < 2 ^ 16)
+    → (x : ℕ) → x < N → run .answer x .reply .number ≡ 34 → ⊥

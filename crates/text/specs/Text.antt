@@ -25,7 +25,7 @@ digitsBefore (suc k) x later = pick (ltb x 10) ((48 + x) ∷ later) (digitsBefor
 unfoldable pub decimal : ℕ → List ℕ
 decimal x = digitsBefore 20 x []
 
--- "margin -4": with a minus sign, byte 45, where it is negative (`signed-value`)
+-- "margin -4": with a minus sign, byte 45, where it is negative (`signed-value`); `negsuc n` is the number -(n + 1)
 unfoldable pub signed : ℤ → List ℕ
 signed (pos n) = decimal n
 signed (negsuc n) = 45 ∷ decimal (suc n)
