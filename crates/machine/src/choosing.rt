@@ -7,12 +7,13 @@ ghost use lib.Dec.{eqb};
 ghost use Rattle.graph.specs.Words.{bit, row, setOf};
 ghost use Rattle.table.specs.declared.Table.{Table};
 ghost use Rattle.machine.specs.declared.State.{State};
-ghost use Rattle.machine.specs.States.{activity, isLive, deadlineOf, left};
-ghost use Rattle.machine.specs.Steps.{availableSets, ownChoice};
+ghost use Rattle.machine.specs.States.{activity, isLive, deadlineOf, live, deadline, left};
+ghost use Rattle.machine.specs.Steps.{availableSets, ownChoice, listed};
 ghost use Rattle.machine.specs.Choosing.{isReady, RanksFirst};
 use crate::Activity;
 use crate::Chosen;
 use crate::State;
+use crate::held;
 use table::Table;
 
 // A live job's deadline; 0 where there is none.
@@ -177,4 +178,20 @@ pub(crate) fn choose(m: u8, n: usize, given: [u16; 16], ticks: &[u32; 16]) -> Ch
         keys: keys,
         count: count,
     }
+}
+
+// Steps 2 and 3: the machine's own choice, by the set of tasks that are live once step 1 is made; none of them is from n on.
+pub(crate) fn own_choice(
+    t: Table,
+    clock: u32,
+    begun: u16,
+    deadlines: &[u32; 16],
+    remaining: &[u32; 256],
+) -> Chosen
+    requires { ⌜ (t .m ≤ 8) × (t .n ≤ 16) × ((i : ℕ) → i < 16 → t .n ≤ i → bit begun i ≡ false) ⌝ }
+    ensures { λ r. ⌜ ((st : State) → st .clock ≡ clock → st .remaining ≡ now (remaining .entry) → ((i : ℕ) → i < 16 → bit begun i ≡ live st i) → ((i : ℕ) → i < 16 → getD (now (deadlines .entry)) i 0 ≡ deadline st i) → listed r ≡ ownChoice t st) ⌝ }
+{
+    let left = held::left_of(deadlines, clock);
+    let sets = sets_of(t, begun, remaining);
+    choose(t.m, t.n as usize, sets, &left)
 }

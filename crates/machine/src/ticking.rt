@@ -2,12 +2,13 @@
 ghost use mathlib.Core.Path.{_≡_};
 ghost use mathlib.Core.Bool.{_&&_};
 ghost use Prim.Native.Nat.{ℕ, _≤_, _<_};
+ghost use lib.ListN.{getD};
 ghost use lib.Dec.{ltb, leb};
-ghost use Rattle.graph.specs.Words.{bit, lowest};
-ghost use Rattle.machine.specs.States.{waitOf, wait};
+ghost use Rattle.graph.specs.Words.{bit, row, lowest};
+ghost use Rattle.machine.specs.States.{waitOf, wait, ticksLeft};
 ghost use Rattle.table.specs.Good.{GoodTable};
 ghost use Rattle.machine.specs.Steps.{offered, ownChoice, listed, worked};
-ghost use Rattle.machine.specs.Choosing.{replyOf, refusalOf};
+ghost use Rattle.machine.specs.Choosing.{fitsBy, replyOf, refusalOf, rowsAfter};
 ghost use Rattle.machine.specs.Ticking.{nobody, pairOf, runList, ticked, judged, advanceTo, advance, refuse, tickOn};
 use crate::Answer;
 use crate::Chosen;
@@ -83,7 +84,7 @@ fn answer(number: u8, task: u8, chosen: Chosen, done: u16) -> Answer
 }
 
 // The same with a state.
-fn told(number: u8, task: u8, chosen: Chosen, done: u16, st: State) -> Ticked
+fn told_of(number: u8, task: u8, chosen: Chosen, done: u16, st: State) -> Ticked
     ensures { λ r. ⌜ r ≡ ticked number task (listed chosen) done st ⌝ }
 {
     Ticked {
@@ -118,9 +119,9 @@ fn judge(chosen: Chosen, done: u16, st: State) -> Ticked
     let i = steps::first_missed(st);
     if i < 16 {
         let stopped = opening::zeros(st.clock, Phase::Stopped(i));
-        return told(34, i, chosen, done, stopped);
+        return told_of(34, i, chosen, done, stopped);
     }
-    told(0, 255, chosen, done, st)
+    told_of(0, 255, chosen, done, st)
 }
 
 // Steps 4, 5 and 6, of the state after step 1.
@@ -204,25 +205,73 @@ pub fn first_early(named: u16, n: u8, st: State) -> u8
 }
 
 // 30, 32, 31 and 33, in this order; number 0 if there is none.
-fn refusal(fits: bool, phase: Phase, named: u16, n: u8, waits: &[u32; 16]) -> Reply
-    requires { ⌜ n ≤ 16 ⌝ }
-    ensures { λ r. ⌜ r ≡ refusalOf fits phase named n (now (waits .entry)) ⌝ }
+fn refusal(
+    t: Table,
+    clock: u32,
+    phase: Phase,
+    costs: &[u32; 256],
+    named: u16,
+    live: u16,
+    deadlines: &[u32; 16],
+    waits: &[u32; 16],
+    work: &[u64; 16],
+    remaining: &[u32; 256],
+) -> Reply
+    requires { ⌜ t .n ≤ 16 ⌝ }
+    ensures { λ r. ⌜ r ≡ refusalOf (fitsBy phase t (now (costs .entry)) live (row 16 (λ i. ticksLeft (getD (now (deadlines .entry)) i 0) clock)) (now (waits .entry)) (now (work .entry)) (now (remaining .entry))) phase named (t .n) (now (waits .entry)) ⌝ }
 {
-    if !fits {
+    let ticks = held::left_of(deadlines, clock);
+    if !fitting::fits_rows(t, phase, costs, live, &ticks, waits, work, remaining) {
         return reply(30, 255);
     }
     let Phase::Running = phase else {
         return reply(32, 255);
     };
-    let beyond = first_beyond(named, n);
+    let beyond = first_beyond(named, t.n);
     if beyond < 16 {
         return reply(31, beyond);
     }
-    let early = lent::first_early(named, n, waits);
+    let early = lent::first_early(named, t.n, waits);
     if early < 16 {
         return reply(33, early);
     }
     reply(0, 255)
+}
+
+// Steps 5 and 6, of the state after step 4 that these rows make.
+fn told(
+    clock: u32,
+    phase: Phase,
+    begun: u16,
+    chosen: Chosen,
+    deadlines: &[u32; 16],
+    waits: &[u32; 16],
+    remaining: [u32; 256],
+    work: [u64; 16],
+) -> Ticked
+    ensures { λ r. ⌜ r ≡ advanceTo (listed chosen) (rowsAfter clock phase begun (now (deadlines .entry)) (now (waits .entry)) remaining work) ⌝ }
+{
+    let done = lent::done_of(begun, &work);
+    let going = begun & !done;
+    let next = std::num::wrapping_add_u32(clock, 1);
+    let late = lent::first_late(going, deadlines, next);
+    if late < 16 {
+        let stopped = opening::zeros(next, Phase::Stopped(late));
+        return Ticked {
+            answer: answer(34, late, chosen, done),
+            state: stopped,
+        };
+    }
+    Ticked {
+        answer: answer(0, 255, chosen, done),
+        state: State {
+            clock: next,
+            phase: phase,
+            tasks: held::together(going, deadlines, waits),
+            remaining: remaining,
+            work: work,
+        },
+    }
 }
 
 // The tick on a table. The state is taken apart once; its rows are lent, and changed where they lie.
@@ -239,40 +288,42 @@ pub(crate) fn tick_on(t: Table, st: State, named: u16) -> Ticked
     let live = held::live_set(states);
     let mut deadlines = held::deadlines_of(states);
     let mut waits = held::waits_of(states);
-    let ticks = held::left_of(&deadlines, clock);
-    let fits = fitting::fits_rows(t, phase, &costs, live, &ticks, &waits, &work, &remaining);
-    let no = refusal(fits, phase, named, t.n, &waits);
+    let no = refusal(
+        t,
+        clock,
+        phase,
+        &costs,
+        named,
+        live,
+        &deadlines,
+        &waits,
+        &work,
+        &remaining,
+    );
     if no.number != 0 {
         return refuse(st, no.number, 0, no.task);
     }
-    lent::begin(t, clock, named, &mut deadlines, &mut waits);
-    lent::put_costs(&costs, named, &mut remaining);
-    lent::put_work(&costs, named, &mut work);
+    lent::release(
+        t,
+        clock,
+        &costs,
+        named,
+        &mut deadlines,
+        &mut waits,
+        &mut remaining,
+        &mut work,
+    );
     let begun = live | named;
-    let left = held::left_of(&deadlines, clock);
-    let sets = choosing::sets_of(t, begun, &remaining);
-    let chosen = choosing::choose(t.m, t.n as usize, sets, &left);
-    lent::work_off(chosen, &remaining, &mut work);
-    lent::run(chosen, &mut remaining);
-    let done = lent::done_of(begun, &work);
-    let going = begun & !done;
-    let next = std::num::wrapping_add_u32(clock, 1);
-    let late = lent::first_late(going, &deadlines, next);
-    if late < 16 {
-        let stopped = opening::zeros(next, Phase::Stopped(late));
-        return Ticked {
-            answer: answer(34, late, chosen, done),
-            state: stopped,
-        };
-    }
-    Ticked {
-        answer: answer(0, 255, chosen, done),
-        state: State {
-            clock: next,
-            phase: Phase::Running,
-            tasks: held::together(going, &deadlines, &waits),
-            remaining: remaining,
-            work: work,
-        },
-    }
+    let chosen = choosing::own_choice(t, clock, begun, &deadlines, &remaining);
+    lent::run(chosen, &mut remaining, &mut work);
+    told(
+        clock,
+        phase,
+        begun,
+        chosen,
+        &deadlines,
+        &waits,
+        remaining,
+        work,
+    )
 }

@@ -12,8 +12,7 @@ use borrow.Author.Tests.{le-ltb}
 use Rattle.graph.specs.Words.{isIn}
 use Rattle.machine.specs.States.{remaining, workOf}
 use Rattle.machine.specs.Steps.{listed, runOf}
-use Rattle.machine.specs.Choosing.{runIn}
-use Rattle.machine.proofs.Taken.{OffTo, off-none, off-skip, off-one, off-all}
+use Rattle.machine.proofs.Taken.{runIn, OffTo, off-none, off-skip, off-one, off-all}
 use Rattle.machine.proofs.steps.worked_off.Statement.{statement}
 use Rattle.machine.proofs.steps.worked_off.Tie as tie
 

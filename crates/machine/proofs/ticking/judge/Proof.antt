@@ -19,8 +19,8 @@ first-missed-requires c κs = search needs
 zeros-requires : tie.Need-zeros-requires
 zeros-requires c κs = search needs
 
-told-requires : tie.Need-told-requires
-told-requires c κs = search needs
+told-of-requires : tie.Need-told-of-requires
+told-of-requires c κs = search needs
 
 returns : tie.Need-returns
 unfolding judged
@@ -28,13 +28,13 @@ returns c =
     let a = c .before .before .before .before .args in
     let l = take (a .chosen .count) (a .chosen .keys) in
     let m = c .before .before .before .first-missed in
-    c .told .ensures
+    c .told-of .ensures
     ∙ ap (λ (s : State). ticked 34 (m .result) l (a .done) s) (c .before .zeros .ensures)
     ∙ sym (lowestOr-is 16 (missed (a .st)) (λ i. ticked 34 i l (a .done) (zeros (a .st .clock) (Stopped i))) _ (m .result)
     (found 16 16 (missed (a .st)) (omega arith) (m .result) (m .ensures) (c .before .before .if1 .taken)))
 
-told-requires-2 : tie.Need-told-requires-2
-told-requires-2 c κs = search needs
+told-of-requires-2 : tie.Need-told-of-requires-2
+told-of-requires-2 c κs = search needs
 
 returns-2 : tie.Need-returns-2
 unfolding judged
@@ -42,11 +42,11 @@ returns-2 c =
     let a = c .before .before .before .args in
     let l = take (a .chosen .count) (a .chosen .keys) in
     let m = c .before .before .first-missed in
-    c .told2 .ensures
+    c .told-of2 .ensures
     ∙ sym (lowestOr-none 16 (missed (a .st)) (λ i. ticked 34 i l (a .done) (zeros (a .st .clock) (Stopped i))) _
     (found-none 16 16 (missed (a .st)) (omega arith) (m .result) (m .ensures) (c .before .if1 .left)))
 
 pub judge-spec : {M : Type 1} → statement M
 judge-spec =
     tie.close
-    (tie.spec first-missed-requires zeros-requires told-requires returns told-requires-2 returns-2)
+    (tie.spec first-missed-requires zeros-requires told-of-requires returns told-of-requires-2 returns-2)
