@@ -4,7 +4,7 @@ ghost use mathlib.Core.Bool.{_&&_, not, true, false};
 ghost use Prim.Native.Nat.{ℕ, _+_, _≤_, _<_};
 ghost use lib.ListN.{length, getD, take};
 ghost use lib.Dec.{eqb};
-ghost use Rattle.graph.specs.Words.{bit, row, setOf};
+ghost use Rattle.graph.specs.Words.{bit, row, isIn, Distinct, setOf};
 ghost use Rattle.table.specs.declared.Table.{Table};
 ghost use Rattle.machine.specs.declared.State.{State};
 ghost use Rattle.machine.specs.States.{activity, isLive, deadlineOf, live, deadline, left};
@@ -14,6 +14,7 @@ use crate::Activity;
 use crate::Chosen;
 use crate::State;
 use crate::held;
+use crate::steps;
 use table::Table;
 
 // A live job's deadline; 0 where there is none.
@@ -194,4 +195,37 @@ pub(crate) fn own_choice(
     let left = held::left_of(deadlines, clock);
     let sets = sets_of(t, begun, remaining);
     choose(t.m, t.n as usize, sets, &left)
+}
+
+// Whether vertex k is among the first `count`.
+fn holds(keys: &[u8; 8], count: usize, k: u8) -> bool
+    requires { ⌜ (count ≤ 8) × (length (now keys) ≡ 8) ⌝ }
+    ensures { λ r. ⌜ r ≡ isIn k (take count (now (keys .entry))) ⌝ }
+{
+    for i in 0..count {
+        if keys[i] == k {
+            return true;
+        }
+    }
+    false
+}
+
+// The vertices that a choice lists, none of them twice.
+pub(crate) fn once(chosen: Chosen) -> Chosen
+    ensures { λ r. ⌜ Distinct (listed r) × ((k : ℕ) → isIn k (listed r) ≡ isIn k (listed chosen)) ⌝ }
+{
+    let many = steps::places(chosen.count);
+    let given = chosen.keys;
+    let mut keys = [0u8; 8];
+    let mut count: usize = 0;
+    for j in 0..many {
+        if !holds(&keys, count, given[j]) {
+            keys[count] = given[j];
+            count += 1;
+        }
+    }
+    Chosen {
+        keys: keys,
+        count: count,
+    }
 }

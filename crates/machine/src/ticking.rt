@@ -5,7 +5,7 @@ ghost use Prim.Native.Nat.{ℕ, _≤_, _<_};
 ghost use lib.ListN.{getD};
 ghost use lib.Dec.{ltb, leb};
 ghost use Rattle.graph.specs.Words.{bit, row, lowest};
-ghost use Rattle.machine.specs.States.{waitOf, wait, ticksLeft};
+ghost use Rattle.machine.specs.States.{wait, ticksLeft};
 ghost use Rattle.table.specs.Good.{GoodTable};
 ghost use Rattle.machine.specs.Steps.{offered, ownChoice, listed, worked};
 ghost use Rattle.machine.specs.Choosing.{fitsBy, replyOf, refusalOf, rowsAfter};
@@ -17,7 +17,6 @@ use crate::Pair;
 use crate::Phase;
 use crate::Reply;
 use crate::State;
-use crate::TaskState;
 use crate::Ticked;
 use crate::choosing;
 use crate::fitting;
@@ -134,24 +133,6 @@ pub fn advance_from(t: Table, st: State, named: u16, chosen: Chosen) -> Ticked
     judge(chosen, done, rest)
 }
 
-// Steps 1, 4, 5 and 6, with the vertices that a choice lists.
-pub fn advance(t: Table, st: State, named: u16, chosen: Chosen) -> Ticked
-    ensures { λ r. ⌜ r ≡ advance t st named (listed chosen) ⌝ }
-{
-    advance_from(t, steps::release(t, st, named), named, chosen)
-}
-
-// Step 2, once step 1 is made, and what step 3 ranks by.
-pub fn offered(t: Table, st: State, named: u16) -> Offer
-    ensures { λ r. ⌜ r ≡ offered t st named ⌝ }
-{
-    let begun = steps::release(t, st, named);
-    Offer {
-        sets: choosing::available_sets(t, begun),
-        left: choosing::ticks_left(begun),
-    }
-}
-
 // Whether number i is named though it is no task.
 fn is_beyond(named: u16, n: u8, i: u8) -> bool
     requires { ⌜ i < 16 ⌝ }
@@ -178,30 +159,13 @@ pub fn first_beyond(named: u16, n: u8) -> u8
     16
 }
 
-// Whether task i is named though it has to wait.
-fn is_early(named: u16, s: TaskState, i: u8) -> bool
-    requires { ⌜ i < 16 ⌝ }
-    ensures { λ r. ⌜ r ≡ (bit named i && ltb 0 (waitOf (s .activity))) ⌝ }
-{
-    let a = s.activity;
-    if (named >> i) % 2 == 1 {
-        return 0 < steps::wait_of(a);
-    }
-    false
-}
-
 // 33: the lowest named task with a wait above 0, 16 if there is none.
 pub fn first_early(named: u16, n: u8, st: State) -> u8
     ensures { λ r. ⌜ r ≡ lowest 16 n (λ i. bit named i && ltb 0 (wait st i)) ⌝ }
 {
-    let used = steps::entries(n);
     let states = st.tasks;
-    for i in 0..used {
-        if is_early(named, states[i as usize], i) {
-            return i;
-        }
-    }
-    16
+    let waits = held::waits_of(states);
+    lent::first_early(named, n, &waits)
 }
 
 // 30, 32, 31 and 33, in this order; number 0 if there is none.
@@ -326,4 +290,69 @@ pub(crate) fn tick_on(t: Table, st: State, named: u16) -> Ticked
         remaining,
         work,
     )
+}
+
+// Steps 1, 4, 5 and 6, with the vertices that a choice lists; one that is listed twice runs once.
+pub fn advance(t: Table, st: State, named: u16, chosen: Chosen) -> Ticked
+    ensures { λ r. ⌜ r ≡ advance t st named (listed chosen) ⌝ }
+{
+    let clock = st.clock;
+    let phase = st.phase;
+    let states = st.tasks;
+    let costs = t.costs;
+    let mut remaining = st.remaining;
+    let mut work = st.work;
+    let live = held::live_set(states);
+    let mut deadlines = held::deadlines_of(states);
+    let mut waits = held::waits_of(states);
+    lent::release(
+        t,
+        clock,
+        &costs,
+        named,
+        &mut deadlines,
+        &mut waits,
+        &mut remaining,
+        &mut work,
+    );
+    let once = choosing::once(chosen);
+    lent::run(once, &mut remaining, &mut work);
+    told(
+        clock,
+        phase,
+        live | named,
+        chosen,
+        &deadlines,
+        &waits,
+        remaining,
+        work,
+    )
+}
+
+// Step 2, once step 1 is made, and what step 3 ranks by.
+pub fn offered(t: Table, st: State, named: u16) -> Offer
+    ensures { λ r. ⌜ r ≡ offered t st named ⌝ }
+{
+    let clock = st.clock;
+    let states = st.tasks;
+    let costs = t.costs;
+    let mut remaining = st.remaining;
+    let mut work = st.work;
+    let live = held::live_set(states);
+    let mut deadlines = held::deadlines_of(states);
+    let mut waits = held::waits_of(states);
+    lent::release(
+        t,
+        clock,
+        &costs,
+        named,
+        &mut deadlines,
+        &mut waits,
+        &mut remaining,
+        &mut work,
+    );
+    Offer {
+        sets: choosing::sets_of(t, live | named, &remaining),
+        left: held::left_of(&deadlines, clock),
+    }
 }
