@@ -1,46 +1,31 @@
 -- A tick over rows: a state's tasks taken apart, each step where the rows lie, and put together again, is the tick of specs/Ticking.antt.
-use mathlib.Core.Path.{_≡_, refl, sym, ap, ap₂, subst, _∙_}
+use mathlib.Core.Path.{_≡_, refl, sym, ap, _∙_}
 use mathlib.Core.Logic.{⊎-elim}
-use mathlib.Core.Bool.{Bool, true, false, _&&_, _||_, not}
+use mathlib.Core.Bool.{Bool, true, false, _&&_}
 use mathlib.Core.List.{List}
-use Prim.Native.Nat.{ℕ, _+_, _*_, _-_, _/_, _^_, _≤_, _<_}
+use Prim.Native.Nat.{ℕ, _^_, _≤_, _<_}
 use native.Mathlib.Omega.{arith}
-use native.Mathlib.Decide.{decLt}
-use lib.ListN.{length, getD}
-use lib.Dec.{ltb, leb, eqb}
-use lib.Bits.{bitAnd, bitOr}
-use borrow.Author.Tests.{le-leb}
-use Rattle.graph.specs.Words.{pick, bit, sum, all, row, thoseBelow, isIn, lowest, lowestOr, setOf}
-use Rattle.graph.proofs.Facts.{clash, sum-same, length-row, row-at, past-end, lowestOr-none}
-use Rattle.graph.proofs.Bits.{bit-or}
-use Rattle.graph.proofs.Members.{below-same, bit-without}
+use lib.ListN.{getD}
+use lib.Dec.{ltb, leb}
+use Rattle.graph.specs.Words.{pick, bit, row, lowest, lowestOr, setOf}
+use Rattle.graph.proofs.Facts.{sum-same, length-row, row-at, lowestOr-none}
+use Rattle.graph.proofs.Members.{below-same}
 use Rattle.table.specs.declared.Table.{Table}
-use Rattle.table.specs.Memory.{D, T, cost}
 use Rattle.table.specs.Good.{GoodTable}
-use Rattle.fitness.specs.Fitness.{workLeft}
 use Rattle.fitness.proofs.Behind.{all-same}
-use Rattle.fitness.proofs.Cases.{work-sum}
 use Rattle.machine.specs.declared.Phase.{Phase}
 use Rattle.machine.specs.declared.Phase.the-variants.{Running, Stopped}
-use Rattle.machine.specs.declared.Activity.{Activity}
-use Rattle.machine.specs.declared.Activity.the-variants.{Idle, Live}
 use Rattle.machine.specs.declared.State.{State}
-use Rattle.machine.specs.declared.TaskState.{TaskState}
 use Rattle.machine.specs.declared.Reply.{Reply}
-use Rattle.machine.specs.declared.Ticked.{Ticked}
-use Rattle.machine.specs.States.{idle, activity, isLive, waitOf, deadlineOf, live, wait, deadline, remaining, workOf, wrap, ticksLeft, left, zeros}
-use Rattle.machine.specs.Steps.{available, availableSets, ownChoice, released, runOf, worked, finishes, ended, finished, missed}
-use Rattle.machine.specs.Fitting.{zeroTaskIn, fitsTask, fitsPhase, fits}
+use Rattle.machine.specs.States.{idle, activity, isLive, waitOf, deadlineOf, live, wait, deadline, remaining, workOf, ticksLeft, left}
+use Rattle.machine.specs.Fitting.{fitsPhase, fits}
 use Rattle.machine.specs.Choosing.{fitsBy, replyOf, refusalIn, refusalOf}
-use Rattle.machine.specs.Ticking.{ticked, refuse, tickOn}
-use Rattle.machine.proofs.Index.{released-live, released-wait, released-deadline, worked-live, worked-wait, worked-deadline, ended-live, ended-wait, ended-deadline}
-use Rattle.machine.proofs.Clauses.{unused-task}
+use Rattle.machine.specs.Ticking.{refuse, tickOn}
 use Rattle.machine.proofs.Lowest.{Lowest, None, lowestOr-is, lowest-cases}
-use Rattle.machine.proofs.Cases.{beyond, tooSoon, Admitted, unfit-30, stopped-32, beyond-31, early-33, misses-34, goes-0}
+use Rattle.machine.proofs.Cases.{beyond, tooSoon, Admitted, unfit-30, stopped-32, beyond-31, early-33}
 use Rattle.machine.proofs.Fits.{zero-same, same-rules}
 use Rattle.machine.proofs.Filling.{row-same}
-use Rattle.machine.proofs.Searching.{found, found-none, set-small, bit-set}
-use Rattle.machine.proofs.Gathered.{dead-none}
+use Rattle.machine.proofs.Searching.{bit-set}
 
 -- rows that agree by number are equal
 pub row-ext {ℓ} : {X : Type ℓ} (n : ℕ) (d : X) (f g : ℕ → X) → ((k : ℕ) → k < n → f k ≡ g k) → row n f ≡ row n g

@@ -1,6 +1,6 @@
 -- One off a task's work for each vertex of a list of which something remains, one after the other: what is left to do from here gives what all
 -- of it gives from the start.
-use mathlib.Core.Path.{_≡_, refl, sym, ap, ap₂, subst, _∙_}
+use mathlib.Core.Path.{_≡_, refl, sym, ap, ap₂, _∙_}
 use mathlib.Core.Bool.{Bool, true, false, _&&_}
 use mathlib.Core.List.{List, [], _∷_}
 use Prim.Native.Nat.{ℕ, suc, _+_, _*_, _-_, _/_, _%_, _<_}
@@ -9,8 +9,8 @@ use native.Mathlib.Numerals.{add-one}
 use native.Mathlib.Decide.{ℕ-discrete}
 use lib.ListN.{length, getD, set, length-set, drop}
 use lib.Seq.{ext-getD, getD-set-same, getD-set-other, drop-cons, drop-length}
-use lib.Dec.{ltb, eqb}
-use borrow.Author.Tests.{lt-ltb, le-ltb, eq-eqb, ne-eqb}
+use lib.Dec.{ltb}
+use borrow.Author.Tests.{lt-ltb, le-ltb}
 use Rattle.graph.specs.Words.{flag, pick, row, sum, isIn, Distinct}
 use Rattle.graph.proofs.Facts.{length-row, row-at, first-in, other-in, sum-same, sum-none, sum-set}
 use Rattle.machine.specs.declared.State.{State}

@@ -5,7 +5,7 @@ use mathlib.Core.List.{List, []}
 use Prim.Native.Nat.{ℕ, _+_, _*_, _-_, _/_, _^_, _≤_, _<_}
 use native.Mathlib.Omega.{arith}
 use native.Mathlib.Decide.{decLt}
-use lib.ListN.{length, getD}
+use lib.ListN.{getD}
 use lib.Dec.{ltb, leb, eqb}
 use lib.Bits.{bitAnd, bitOr}
 use borrow.Author.Tests.{le-leb}
@@ -25,12 +25,12 @@ use Rattle.machine.specs.declared.State.{State}
 use Rattle.machine.specs.declared.TaskState.{TaskState}
 use Rattle.machine.specs.declared.Ticked.{Ticked}
 use Rattle.machine.specs.States.{idle, activity, isLive, waitOf, deadlineOf, live, wait, deadline, remaining, workOf, wrap, ticksLeft, left, zeros}
-use Rattle.machine.specs.Steps.{available, availableSets, released, runOf, withWait, worked, finishes, ended, finished, missed}
+use Rattle.machine.specs.Steps.{availableSets, released, runOf, withWait, worked, finishes, ended, finished, missed}
 use Rattle.machine.specs.Choosing.{rowsAfter}
 use Rattle.machine.specs.Ticking.{ticked, judged, advanceTo}
 use Rattle.machine.proofs.Index.{released-live, released-wait, released-deadline, ended-activity}
 use Rattle.machine.proofs.Clauses.{unused-task}
-use Rattle.machine.proofs.Lowest.{Lowest, None, lowestOr-is}
+use Rattle.machine.proofs.Lowest.{lowestOr-is}
 use Rattle.machine.proofs.Cases.{beyond, Admitted}
 use Rattle.machine.proofs.Filling.{row-same}
 use Rattle.machine.proofs.Searching.{found, found-none, set-small, bit-set}

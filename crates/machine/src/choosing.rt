@@ -7,25 +7,14 @@ ghost use lib.Dec.{eqb};
 ghost use Rattle.graph.specs.Words.{bit, row, isIn, Distinct, setOf};
 ghost use Rattle.table.specs.declared.Table.{Table};
 ghost use Rattle.machine.specs.declared.State.{State};
-ghost use Rattle.machine.specs.States.{activity, isLive, deadlineOf, live, deadline, left};
+ghost use Rattle.machine.specs.States.{activity, isLive, live, deadline, left};
 ghost use Rattle.machine.specs.Steps.{availableSets, ownChoice, listed};
 ghost use Rattle.machine.specs.Choosing.{isReady, RanksFirst};
-use crate::Activity;
 use crate::Chosen;
 use crate::State;
 use crate::held;
-use crate::steps;
+use crate::numbers;
 use table::Table;
-
-// A live job's deadline; 0 where there is none.
-pub(crate) fn deadline_of(a: Activity) -> u32
-    ensures { λ r. ⌜ r ≡ deadlineOf a ⌝ }
-{
-    match a {
-        Activity::Idle { wait } => 0,
-        Activity::Live { deadline, wait } => deadline,
-    }
-}
 
 // The vertices of task i with something remaining to which none of the first v leads that is not done.
 fn ready_in(succ: [u16; 16], v: usize, remaining: &[u32; 256], i: usize) -> u16
@@ -42,36 +31,6 @@ fn ready(succ: [u16; 16], v: usize, remaining: &[u32; 256], i: usize) -> u16
     ensures { λ r. ⌜ (r ≡ setOf 16 (isReady succ v (now (remaining .entry)) i)) × (length succ ≡ 16) ⌝ }
 {
     ready_in(succ, v, remaining, i)
-}
-
-// Task i's available vertices: those of a live job; an idle task has none.
-fn available_in(a: Activity, succ: [u16; 16], v: usize, remaining: &[u32; 256], i: usize) -> u16
-    requires { ⌜ i < 16 ⌝ }
-    ensures { λ r. ⌜ (r ≡ setOf 16 (λ u. isLive a && isReady succ v (now (remaining .entry)) i u)) × (length succ ≡ 16) ⌝ }
-{
-    match a {
-        Activity::Idle { wait } => 0,
-        Activity::Live { deadline, wait } => ready_in(succ, v, remaining, i),
-    }
-}
-
-// Step 2: each task's available vertices. Only what is looked at is copied.
-pub fn available_sets(t: Table, st: State) -> [u16; 16]
-    ensures { λ r. ⌜ r ≡ availableSets t st ⌝ }
-{
-    let tasks = t.tasks;
-    let states = st.tasks;
-    let left = st.remaining;
-    let mut sets = [0u16; 16];
-    for i in 0..16usize {
-        let s = states[i];
-        let a = s.activity;
-        let x = tasks[i];
-        let succ = x.succ;
-        let v = x.v as usize;
-        sets[i] = available_in(a, succ, v, &left, i);
-    }
-    sets
 }
 
 // Step 2 of the tasks in a set: the available vertices of each, with what remains in a row that is lent.
@@ -92,19 +51,6 @@ pub(crate) fn sets_of(t: Table, live: u16, remaining: &[u32; 256]) -> [u16; 16]
         }
     }
     sets
-}
-
-// Each task's ticks left.
-pub fn ticks_left(st: State) -> [u32; 16]
-    ensures { λ r. ⌜ r ≡ row 16 (left st) ⌝ }
-{
-    let mut ticks = [0u32; 16];
-    for i in 0..16usize {
-        let s = st.tasks[i];
-        let a = s.activity;
-        ticks[i] = std::num::wrapping_sub_u32(deadline_of(a), st.clock);
-    }
-    ticks
 }
 
 // The task that ranks first of those up to i, `best` being that of those before it.
@@ -214,7 +160,7 @@ fn holds(keys: &[u8; 8], count: usize, k: u8) -> bool
 pub(crate) fn once(chosen: Chosen) -> Chosen
     ensures { λ r. ⌜ Distinct (listed r) × ((k : ℕ) → isIn k (listed r) ≡ isIn k (listed chosen)) ⌝ }
 {
-    let many = steps::places(chosen.count);
+    let many = numbers::places(chosen.count);
     let given = chosen.keys;
     let mut keys = [0u8; 8];
     let mut count: usize = 0;

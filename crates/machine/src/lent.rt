@@ -1,7 +1,7 @@
 // The steps of a tick where the rows lie: each is lent and changed in place.
 ghost use mathlib.Core.Path.{_≡_};
 ghost use mathlib.Core.Bool.{_&&_};
-ghost use Prim.Native.Nat.{ℕ, _+_, _-_, _/_, _<_};
+ghost use Prim.Native.Nat.{_+_, _-_, _/_, _<_};
 ghost use lib.ListN.{length, getD};
 ghost use lib.Dec.{ltb, eqb};
 ghost use Rattle.graph.specs.Words.{pick, bit, row, isIn, Distinct, lowest, setOf};
@@ -11,7 +11,7 @@ ghost use Rattle.machine.specs.States.{wrap};
 ghost use Rattle.machine.specs.declared.State.{State};
 ghost use Rattle.machine.specs.Steps.{listed, runOf};
 use crate::Chosen;
-use crate::steps;
+use crate::numbers;
 use table::Table;
 
 // Whether task i is named though it has to wait.
@@ -29,7 +29,7 @@ fn is_early(named: u16, waits: &[u32; 16], i: u8) -> bool
 pub(crate) fn first_early(named: u16, n: u8, waits: &[u32; 16]) -> u8
     ensures { λ r. ⌜ r ≡ lowest 16 n (λ i. bit named i && ltb 0 (getD (now (waits .entry)) i 0)) ⌝ }
 {
-    let used = steps::entries(n);
+    let used = numbers::entries(n);
     for i in 0..used {
         if is_early(named, waits, i) {
             return i;
@@ -127,15 +127,15 @@ pub(crate) fn run(chosen: Chosen, remaining: &mut [u32; 256], work: &mut [u64; 1
     requires { ⌜ Distinct (listed chosen) × (length (now remaining) ≡ 256) × (length (now work) ≡ 16) ⌝ }
     ensures { λ r. ⌜ (now (remaining .exit) ≡ row 256 (λ k. pick (isIn k (listed chosen)) (getD (now (remaining .entry)) k 0 - 1) (getD (now (remaining .entry)) k 0))) × ((st : State) → st .remaining ≡ now (remaining .entry) → now (work .exit) ≡ row 16 (λ i. getD (now (work .entry)) i 0 - runOf st i (listed chosen))) ⌝ }
 {
-    let count = steps::places(chosen.count);
+    let count = numbers::places(chosen.count);
     let keys = chosen.keys;
     let mut j: usize = 0;
     while j < count {
-        let k = steps::wide(keys[j]);
+        let k = numbers::wide(keys[j]);
         if remaining[k] != 0 {
-            let after = steps::less(remaining[k]);
+            let after = numbers::less(remaining[k]);
             remaining[k] = after;
-            work[k / 16] = steps::one_off(work[k / 16]);
+            work[k / 16] = numbers::one_off(work[k / 16]);
         }
         j += 1;
     }
@@ -159,7 +159,7 @@ pub(crate) fn done_of(live: u16, work: &[u64; 16]) -> u16
     let mut set: u16 = 0;
     for i in 0..16usize {
         if ends(live, work, i) {
-            let member = steps::power(i);
+            let member = numbers::power(i);
             set += member;
         }
     }

@@ -1,15 +1,15 @@
 // The tick: its steps one after the other, and its refusals. The definitions are in specs/Ticking.antt.
 ghost use mathlib.Core.Path.{_≡_};
 ghost use mathlib.Core.Bool.{_&&_};
-ghost use Prim.Native.Nat.{ℕ, _≤_, _<_};
+ghost use Prim.Native.Nat.{_≤_, _<_};
 ghost use lib.ListN.{getD};
 ghost use lib.Dec.{ltb, leb};
 ghost use Rattle.graph.specs.Words.{bit, row, lowest};
 ghost use Rattle.machine.specs.States.{wait, ticksLeft};
 ghost use Rattle.table.specs.Good.{GoodTable};
-ghost use Rattle.machine.specs.Steps.{offered, ownChoice, listed, worked};
+ghost use Rattle.machine.specs.Steps.{offered, ownChoice, listed};
 ghost use Rattle.machine.specs.Choosing.{fitsBy, replyOf, refusalOf, rowsAfter};
-ghost use Rattle.machine.specs.Ticking.{nobody, pairOf, runList, ticked, judged, advanceTo, advance, refuse, tickOn};
+ghost use Rattle.machine.specs.Ticking.{nobody, pairOf, runList, advanceTo, advance, refuse, tickOn};
 use crate::Answer;
 use crate::Chosen;
 use crate::Offer;
@@ -23,7 +23,6 @@ use crate::fitting;
 use crate::held;
 use crate::lent;
 use crate::opening;
-use crate::steps;
 use table::Table;
 
 // An unused place of a run list.
@@ -82,16 +81,6 @@ fn answer(number: u8, task: u8, chosen: Chosen, done: u16) -> Answer
     }
 }
 
-// The same with a state.
-fn told_of(number: u8, task: u8, chosen: Chosen, done: u16, st: State) -> Ticked
-    ensures { λ r. ⌜ r ≡ ticked number task (listed chosen) done st ⌝ }
-{
-    Ticked {
-        answer: answer(number, task, chosen, done),
-        state: st,
-    }
-}
-
 // A refusal: the same state, eight unused places, the empty set.
 pub(crate) fn refuse(st: State, number: u8, place: usize, task: u8) -> Ticked
     ensures { λ r. ⌜ r ≡ refuse st number place task ⌝ }
@@ -109,28 +98,6 @@ pub(crate) fn refuse(st: State, number: u8, place: usize, task: u8) -> Ticked
         },
         state: st,
     }
-}
-
-// Step 6.
-fn judge(chosen: Chosen, done: u16, st: State) -> Ticked
-    ensures { λ r. ⌜ r ≡ judged (listed chosen) done st ⌝ }
-{
-    let i = steps::first_missed(st);
-    if i < 16 {
-        let stopped = opening::zeros(st.clock, Phase::Stopped(i));
-        return told_of(34, i, chosen, done, stopped);
-    }
-    told_of(0, 255, chosen, done, st)
-}
-
-// Steps 4, 5 and 6, of the state after step 1.
-pub fn advance_from(t: Table, st: State, named: u16, chosen: Chosen) -> Ticked
-    ensures { λ r. ⌜ r ≡ advanceTo (listed chosen) (worked t st named (listed chosen)) ⌝ }
-{
-    let after = steps::work(t, st, named, chosen);
-    let done = steps::finished_set(after);
-    let rest = steps::end_jobs(after, done);
-    judge(chosen, done, rest)
 }
 
 // Whether number i is named though it is no task.

@@ -1,12 +1,9 @@
 -- What each call told of the rows, one after the other; then the tick is put together (proofs/Apart.antt, proofs/Together.antt).
 use mathlib.Core.Path.{_≡_, sym, ap, subst, _∙_}
-use mathlib.Core.List.{List}
-use Prim.Native.Nat.{ℕ}
 use lib.ListN.{length, take}
 use borrow.Author.Needs.{needs}
 use Rattle.graph.specs.Words.{Distinct}
 use Rattle.graph.proofs.Facts.{length-row}
-use Rattle.machine.specs.declared.State.{State}
 use Rattle.machine.specs.Steps.{released, ownChoice}
 use Rattle.machine.specs.Ticking.{advanceTo, advance}
 use Rattle.machine.proofs.Index.{released-clock}

@@ -1,8 +1,8 @@
 use mathlib.Core.Path.{sym, ap}
 use Rattle.machine.specs.States.{deadlineOf}
 use borrow.Author.Needs.{needs}
-use Rattle.machine.proofs.choosing.deadline_of.Statement.{statement}
-use Rattle.machine.proofs.choosing.deadline_of.Tie as tie
+use Rattle.machine.proofs.held.deadline_of.Statement.{statement}
+use Rattle.machine.proofs.held.deadline_of.Tie as tie
 
 enum-known-a : tie.Need-enum-known-a
 enum-known-a c = search needs

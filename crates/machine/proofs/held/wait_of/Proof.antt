@@ -1,8 +1,8 @@
 use mathlib.Core.Path.{sym, ap}
 use borrow.Author.Needs.{needs}
 use Rattle.machine.specs.States.{waitOf}
-use Rattle.machine.proofs.steps.wait_of.Statement.{statement}
-use Rattle.machine.proofs.steps.wait_of.Tie as tie
+use Rattle.machine.proofs.held.wait_of.Statement.{statement}
+use Rattle.machine.proofs.held.wait_of.Tie as tie
 
 enum-known-a : tie.Need-enum-known-a
 enum-known-a c = search needs

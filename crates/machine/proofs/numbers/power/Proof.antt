@@ -3,8 +3,8 @@ use Prim.Native.Nat.{ℕ, _%_, _^_}
 use native.Mathlib.Nat.{mod-eq-of-lt, one-mul}
 use lib.Pow.{pow-lt}
 use borrow.Author.Needs.{needs}
-use Rattle.machine.proofs.steps.power.Statement.{statement}
-use Rattle.machine.proofs.steps.power.Tie as tie
+use Rattle.machine.proofs.numbers.power.Statement.{statement}
+use Rattle.machine.proofs.numbers.power.Tie as tie
 
 cast-result : tie.Need-cast-result
 cast-result c = search needs

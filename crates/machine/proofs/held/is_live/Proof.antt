@@ -1,8 +1,8 @@
 use mathlib.Core.Path.{sym, ap}
 use borrow.Author.Needs.{needs}
 use Rattle.machine.specs.States.{isLive}
-use Rattle.machine.proofs.steps.is_live.Statement.{statement}
-use Rattle.machine.proofs.steps.is_live.Tie as tie
+use Rattle.machine.proofs.held.is_live.Statement.{statement}
+use Rattle.machine.proofs.held.is_live.Tie as tie
 
 enum-known-a : tie.Need-enum-known-a
 enum-known-a c = search needs
