@@ -2,10 +2,9 @@
 ghost use mathlib.Core.Path.{_≡_};
 ghost use mathlib.Core.Bool.{_&&_};
 ghost use Prim.Native.Nat.{_≤_, _<_};
-ghost use lib.ListN.{getD};
 ghost use lib.Dec.{ltb, leb};
-ghost use Rattle.graph.specs.Words.{bit, row, lowest};
-ghost use Rattle.machine.specs.States.{wait, ticksLeft};
+ghost use Rattle.graph.specs.Words.{bit, lowest};
+ghost use Rattle.machine.specs.States.{wait};
 ghost use Rattle.table.specs.Good.{GoodTable};
 ghost use Rattle.machine.specs.Steps.{offered, ownChoice, listed};
 ghost use Rattle.machine.specs.Choosing.{fitsBy, replyOf, refusalOf, rowsAfter};
@@ -138,21 +137,19 @@ pub fn first_early(named: u16, n: u8, st: State) -> u8
 // 30, 32, 31 and 33, in this order; number 0 if there is none.
 fn refusal(
     t: Table,
-    clock: u32,
     phase: Phase,
     costs: &[u32; 256],
     named: u16,
     live: u16,
-    deadlines: &[u32; 16],
+    ticks: &[u32; 16],
     waits: &[u32; 16],
     work: &[u64; 16],
     remaining: &[u32; 256],
 ) -> Reply
     requires { ⌜ t .n ≤ 16 ⌝ }
-    ensures { λ r. ⌜ r ≡ refusalOf (fitsBy phase t (now (costs .entry)) live (row 16 (λ i. ticksLeft (getD (now (deadlines .entry)) i 0) clock)) (now (waits .entry)) (now (work .entry)) (now (remaining .entry))) phase named (t .n) (now (waits .entry)) ⌝ }
+    ensures { λ r. ⌜ r ≡ refusalOf (fitsBy phase t (now (costs .entry)) live (now (ticks .entry)) (now (waits .entry)) (now (work .entry)) (now (remaining .entry))) phase named (t .n) (now (waits .entry)) ⌝ }
 {
-    let ticks = held::left_of(deadlines, clock);
-    if !fitting::fits_rows(t, phase, costs, live, &ticks, waits, work, remaining) {
+    if !fitting::fits_rows(t, phase, costs, live, ticks, waits, work, remaining) {
         return reply(30, 255);
     }
     let Phase::Running = phase else {
@@ -214,23 +211,13 @@ pub(crate) fn tick_on(t: Table, st: State, named: u16) -> Ticked
     let phase = st.phase;
     let states = st.tasks;
     let costs = t.costs;
-    let mut remaining = st.remaining;
+    let mut rest = st.remaining;
     let mut work = st.work;
     let live = held::live_set(states);
     let mut deadlines = held::deadlines_of(states);
     let mut waits = held::waits_of(states);
-    let no = refusal(
-        t,
-        clock,
-        phase,
-        &costs,
-        named,
-        live,
-        &deadlines,
-        &waits,
-        &work,
-        &remaining,
-    );
+    let ticks = held::left_of(&deadlines, clock);
+    let no = refusal(t, phase, &costs, named, live, &ticks, &waits, &work, &rest);
     if no.number != 0 {
         return refuse(st, no.number, 0, no.task);
     }
@@ -241,22 +228,13 @@ pub(crate) fn tick_on(t: Table, st: State, named: u16) -> Ticked
         named,
         &mut deadlines,
         &mut waits,
-        &mut remaining,
+        &mut rest,
         &mut work,
     );
     let begun = live | named;
-    let chosen = choosing::own_choice(t, clock, begun, &deadlines, &remaining);
-    lent::run(chosen, &mut remaining, &mut work);
-    told(
-        clock,
-        phase,
-        begun,
-        chosen,
-        &deadlines,
-        &waits,
-        remaining,
-        work,
-    )
+    let chosen = choosing::own_choice(t, clock, begun, &deadlines, &rest);
+    lent::run(chosen, &mut rest, &mut work);
+    told(clock, phase, begun, chosen, &deadlines, &waits, rest, work)
 }
 
 // Steps 1, 4, 5 and 6, with the vertices that a choice lists; one that is listed twice runs once.
@@ -267,7 +245,7 @@ pub fn advance(t: Table, st: State, named: u16, chosen: Chosen) -> Ticked
     let phase = st.phase;
     let states = st.tasks;
     let costs = t.costs;
-    let mut remaining = st.remaining;
+    let mut rest = st.remaining;
     let mut work = st.work;
     let live = held::live_set(states);
     let mut deadlines = held::deadlines_of(states);
@@ -279,21 +257,13 @@ pub fn advance(t: Table, st: State, named: u16, chosen: Chosen) -> Ticked
         named,
         &mut deadlines,
         &mut waits,
-        &mut remaining,
+        &mut rest,
         &mut work,
     );
     let once = choosing::once(chosen);
-    lent::run(once, &mut remaining, &mut work);
-    told(
-        clock,
-        phase,
-        live | named,
-        chosen,
-        &deadlines,
-        &waits,
-        remaining,
-        work,
-    )
+    lent::run(once, &mut rest, &mut work);
+    let begun = live | named;
+    told(clock, phase, begun, chosen, &deadlines, &waits, rest, work)
 }
 
 // Step 2, once step 1 is made, and what step 3 ranks by.
@@ -303,7 +273,7 @@ pub fn offered(t: Table, st: State, named: u16) -> Offer
     let clock = st.clock;
     let states = st.tasks;
     let costs = t.costs;
-    let mut remaining = st.remaining;
+    let mut rest = st.remaining;
     let mut work = st.work;
     let live = held::live_set(states);
     let mut deadlines = held::deadlines_of(states);
@@ -315,11 +285,11 @@ pub fn offered(t: Table, st: State, named: u16) -> Offer
         named,
         &mut deadlines,
         &mut waits,
-        &mut remaining,
+        &mut rest,
         &mut work,
     );
     Offer {
-        sets: choosing::sets_of(t, live | named, &remaining),
+        sets: choosing::sets_of(t, live | named, &rest),
         left: held::left_of(&deadlines, clock),
     }
 }

@@ -1,27 +1,13 @@
-use mathlib.Core.Path.{_≡_, ap, _∙_}
+use mathlib.Core.Path.{ap, _∙_}
 use mathlib.Core.Bool.{Bool}
-use mathlib.Core.List.{List}
-use Prim.Native.Nat.{ℕ}
-use lib.ListN.{getD}
-use Rattle.graph.specs.Words.{row}
-use Rattle.machine.specs.States.{ticksLeft}
 use borrow.Author.Tests.{not-true, not-false}
 use native.Mathlib.Omega.{arith}
-use Rattle.machine.specs.Choosing.{fitsBy, refusalOf}
+use Rattle.machine.specs.Choosing.{refusalOf}
 use Rattle.machine.proofs.Searching.{found, found-none}
 use Rattle.machine.proofs.Apart.{no-30, no-32, no-31, no-33, no-none}
 use borrow.Author.Needs.{needs}
 use Rattle.machine.proofs.ticking.refusal.Statement.{statement}
 use Rattle.machine.proofs.ticking.refusal.Tie as tie
-
-its-fits : (c : tie.After-fits-rows) → c .fits-rows .result ≡ (let a = c .before .before .before .args in fitsBy (a .phase) (a .t) (a .costs .now) (a .live) (row 16 (λ i. ticksLeft (getD (a .deadlines .now) i 0) (a .clock))) (a .waits .now) (a .work .now) (a .remaining .now))
-its-fits c =
-    let a = c .before .before .before .args in
-    c .fits-rows .ensures
-    ∙ ap (λ (ticks : List ℕ). fitsBy (a .phase) (a .t) (a .costs .now) (a .live) ticks (a .waits .now) (a .work .now) (a .remaining .now)) (c .before .before .left-of .ensures)
-
-left-of-requires : tie.Need-left-of-requires
-left-of-requires c κs = search needs
 
 fits-rows-requires : tie.Need-fits-rows-requires
 fits-rows-requires c κs = search needs
@@ -31,11 +17,11 @@ reply-requires c κs = search needs
 
 returns : tie.Need-returns
 returns c =
-    let s = c .before .before .before .before .before in
+    let s = c .before .before .before in
     let a = s .args in
     let fit = c .before .before .fits-rows .result in
     c .reply .ensures ∙ no-30 fit (a .phase) (a .named) (a .t .n) (a .waits .now) (not-true _ (c .before .if1 .taken))
-    ∙ ap (λ (f : Bool). refusalOf f (a .phase) (a .named) (a .t .n) (a .waits .now)) (its-fits (c .before .before))
+    ∙ ap (λ (f : Bool). refusalOf f (a .phase) (a .named) (a .t .n) (a .waits .now)) (c .before .before .fits-rows .ensures)
 
 enum-told : tie.Need-enum-told
 enum-told c = search needs
@@ -48,12 +34,12 @@ reply-requires-2 c κs = search needs
 
 returns-2 : tie.Need-returns-2
 returns-2 c =
-    let s = c .before .before .before .before .before .before .before in
+    let s = c .before .before .before .before .before in
     let a = s .args in
     let fit = c .before .before .before .before .fits-rows .result in
     let p = c .before .enum-told2 .given in
     c .reply2 .ensures ∙ no-32 fit (a .phase) (a .named) (a .t .n) (a .waits .now) (not-false _ (c .before .before .before .if1 .left)) (p .0 .0) (p .1)
-    ∙ ap (λ (f : Bool). refusalOf f (a .phase) (a .named) (a .t .n) (a .waits .now)) (its-fits (c .before .before .before .before))
+    ∙ ap (λ (f : Bool). refusalOf f (a .phase) (a .named) (a .t .n) (a .waits .now)) (c .before .before .before .before .fits-rows .ensures)
 
 first-beyond-requires : tie.Need-first-beyond-requires
 first-beyond-requires c κs = search needs
@@ -63,14 +49,14 @@ reply-requires-3 c κs = search needs
 
 returns-3 : tie.Need-returns-3
 returns-3 c =
-    let s = c .before .before .before .before .before .before .before .before .before in
+    let s = c .before .before .before .before .before .before .before in
     let a = s .args in
     let fit = c .before .before .before .before .before .before .fits-rows .result in
     let high = c .before .before .first-beyond in
     c .reply3 .ensures
     ∙ no-31 fit (a .phase) (a .named) (a .t .n) (a .waits .now) (not-false _ (c .before .before .before .before .before .if1 .left)) (c .before .before .before .enum-told .given .1) (high .result)
     (found 16 16 _ (omega arith) (high .result) (high .ensures) (c .before .if2 .taken))
-    ∙ ap (λ (f : Bool). refusalOf f (a .phase) (a .named) (a .t .n) (a .waits .now)) (its-fits (c .before .before .before .before .before .before))
+    ∙ ap (λ (f : Bool). refusalOf f (a .phase) (a .named) (a .t .n) (a .waits .now)) (c .before .before .before .before .before .before .fits-rows .ensures)
 
 first-early-requires : tie.Need-first-early-requires
 first-early-requires c κs = search needs
@@ -80,7 +66,7 @@ reply-requires-4 c κs = search needs
 
 returns-4 : tie.Need-returns-4
 returns-4 c =
-    let s = c .before .before .before .before .before .before .before .before .before .before .before in
+    let s = c .before .before .before .before .before .before .before .before .before in
     let a = s .args in
     let fit = c .before .before .before .before .before .before .before .before .fits-rows .result in
     let high = c .before .before .before .before .first-beyond in
@@ -88,14 +74,14 @@ returns-4 c =
     c .reply4 .ensures
     ∙ no-33 fit (a .phase) (a .named) (a .t .n) (a .waits .now) (not-false _ (c .before .before .before .before .before .before .before .if1 .left)) (c .before .before .before .before .before .enum-told .given .1) (found-none 16 16 _ (omega arith) (high .result) (high .ensures) (c .before .before .before .if2 .left)) (early .result)
     (found 16 (a .t .n) _ (s .pre) (early .result) (early .ensures) (c .before .if3 .taken))
-    ∙ ap (λ (f : Bool). refusalOf f (a .phase) (a .named) (a .t .n) (a .waits .now)) (its-fits (c .before .before .before .before .before .before .before .before))
+    ∙ ap (λ (f : Bool). refusalOf f (a .phase) (a .named) (a .t .n) (a .waits .now)) (c .before .before .before .before .before .before .before .before .fits-rows .ensures)
 
 reply-requires-5 : tie.Need-reply-requires-5
 reply-requires-5 c κs = search needs
 
 returns-5 : tie.Need-returns-5
 returns-5 c =
-    let s = c .before .before .before .before .before .before .before .before .before .before .before in
+    let s = c .before .before .before .before .before .before .before .before .before in
     let a = s .args in
     let fit = c .before .before .before .before .before .before .before .before .fits-rows .result in
     let high = c .before .before .before .before .first-beyond in
@@ -103,13 +89,12 @@ returns-5 c =
     c .reply5 .ensures
     ∙ no-none fit (a .phase) (a .named) (a .t .n) (a .waits .now) (not-false _ (c .before .before .before .before .before .before .before .if1 .left)) (c .before .before .before .before .before .enum-told .given .1) (found-none 16 16 _ (omega arith) (high .result) (high .ensures) (c .before .before .before .if2 .left))
     (found-none 16 (a .t .n) _ (s .pre) (early .result) (early .ensures) (c .before .if3 .left))
-    ∙ ap (λ (f : Bool). refusalOf f (a .phase) (a .named) (a .t .n) (a .waits .now)) (its-fits (c .before .before .before .before .before .before .before .before))
+    ∙ ap (λ (f : Bool). refusalOf f (a .phase) (a .named) (a .t .n) (a .waits .now)) (c .before .before .before .before .before .before .before .before .fits-rows .ensures)
 
 pub refusal-spec : {M : Type 1} → statement M
 refusal-spec =
     tie.close
     (tie.spec
-    left-of-requires
     fits-rows-requires
     reply-requires
     returns
