@@ -174,12 +174,12 @@ fn told(
     chosen: Chosen,
     deadlines: &[u32; 16],
     waits: &[u32; 16],
-    remaining: [u32; 256],
-    work: [u64; 16],
+    remaining: &[u32; 256],
+    work: &[u64; 16],
 ) -> Ticked
-    ensures { λ r. ⌜ r ≡ advanceTo (listed chosen) (rowsAfter clock phase begun (now (deadlines .entry)) (now (waits .entry)) remaining work) ⌝ }
+    ensures { λ r. ⌜ r ≡ advanceTo (listed chosen) (rowsAfter clock phase begun (now (deadlines .entry)) (now (waits .entry)) (now (remaining .entry)) (now (work .entry))) ⌝ }
 {
-    let done = lent::done_of(begun, &work);
+    let done = lent::done_of(begun, work);
     let going = begun & !done;
     let next = std::num::wrapping_add_u32(clock, 1);
     let late = lent::first_late(going, deadlines, next);
@@ -196,8 +196,8 @@ fn told(
             clock: next,
             phase: phase,
             tasks: held::together(going, deadlines, waits),
-            remaining: remaining,
-            work: work,
+            remaining: *remaining,
+            work: *work,
         },
     }
 }
@@ -231,10 +231,10 @@ pub(crate) fn tick_on(t: Table, st: State, named: u16) -> Ticked
         &mut rest,
         &mut work,
     );
-    let begun = live | named;
-    let chosen = choosing::own_choice(t, clock, begun, &deadlines, &rest);
+    let live = live | named;
+    let chosen = choosing::own_choice(t, clock, live, &deadlines, &rest);
     lent::run(chosen, &mut rest, &mut work);
-    told(clock, phase, begun, chosen, &deadlines, &waits, rest, work)
+    told(clock, phase, live, chosen, &deadlines, &waits, &rest, &work)
 }
 
 // Steps 1, 4, 5 and 6, with the vertices that a choice lists; one that is listed twice runs once.
@@ -262,8 +262,8 @@ pub fn advance(t: Table, st: State, named: u16, chosen: Chosen) -> Ticked
     );
     let once = choosing::once(chosen);
     lent::run(once, &mut rest, &mut work);
-    let begun = live | named;
-    told(clock, phase, begun, chosen, &deadlines, &waits, rest, work)
+    let live = live | named;
+    told(clock, phase, live, chosen, &deadlines, &waits, &rest, &work)
 }
 
 // Step 2, once step 1 is made, and what step 3 ranks by.

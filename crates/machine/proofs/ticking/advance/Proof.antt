@@ -49,9 +49,9 @@ told-requires c κs = search needs
 returns : tie.Need-returns
 unfolding advance
 returns c =
-    let u = c .before .before .before .run in
-    let o = c .before .before .before .before .before .before .once in
-    let r = c .before .before .before .before .before .before .before in
+    let u = c .before .before .before .before .before .run in
+    let o = c .before .before .before .before .before .before .before .before .once in
+    let r = c .before .before .before .before .before .before .before .before .before in
     let a = start-of r .args in
     let l = take (a .chosen .count) (a .chosen .keys) in
     let once = take (o .result .count) (o .result .keys) in

@@ -105,15 +105,15 @@ told-requires c κs = search needs
 returns-2 : tie.Need-returns-2
 unfolding advance
 returns-2 c =
-    let u = c .before .before .before .run in
-    let o = c .before .before .before .before .before .before in
-    let r = c .before .before .before .before .before .before .before .before .before in
+    let u = c .before .before .before .before .before .run in
+    let o = c .before .before .before .before .before .before .before .before in
+    let r = c .before .before .before .before .before .before .before .before .before .before .before in
     let a = start-of r .args in
     let l = take (o .own-choice .result .count) (o .own-choice .result .keys) in
     c .told .ensures
     ∙ ap (advanceTo l) (rows-worked (a .t) (a .st) (a .named) _ _ _ _ _ _ _ (its-rows (rows-at r)) (begun r) l _ _ (u .ensures .0) (u .ensures .1))
     ∙ ap (advance (a .t) (a .st) (a .named)) (its-choice o)
-    ∙ sym (admitted-advances ownChoice (a .t) (a .st) (a .named) (admitted (c .before .before .before .before .before .before .before .before .before .before .before .before .before .before .before)))
+    ∙ sym (admitted-advances ownChoice (a .t) (a .st) (a .named) (admitted (c .before .before .before .before .before .before .before .before .before .before .before .before .before .before .before .before .before)))
 
 pub tick-on-spec : {M : Type 1} → statement M
 tick-on-spec =

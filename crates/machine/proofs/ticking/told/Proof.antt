@@ -27,12 +27,12 @@ answer-requires c κs = search needs
 returns : tie.Need-returns
 unfolding ticked wrap
 returns c =
-    let s = c .before .before .before .before .before .before .before in
+    let s = c .before .before .before .before .before .before in
     let a = s .args in
     let d = c .before .before .before .before .before .done-of in
     let k = c .before .before .before .before .wrapping-add-u32 in
     let m = c .before .before .before .first-late in
-    rows-miss (a .clock) (a .phase) (a .begun) (a .deadlines .now) (a .waits .now) (a .remaining) (a .t8) (take (a .chosen .count) (a .chosen .keys)) (d .result) (d .ensures) (k .result) (m .result) (k .ensures) (m .ensures) (c .before .before .if1 .taken)
+    rows-miss (a .clock) (a .phase) (a .begun) (a .deadlines .now) (a .waits .now) (a .remaining .now) (a .work .now) (take (a .chosen .count) (a .chosen .keys)) (d .result) (d .ensures) (k .result) (m .result) (k .ensures) (m .ensures) (c .before .before .if1 .taken)
     _ (ap₂ (λ (x : Answer) (z : State). record { answer = x; state = z }) (c .answer .ensures) (c .before .zeros .ensures))
 
 answer-requires-2 : tie.Need-answer-requires-2
@@ -44,14 +44,14 @@ together-requires c κs = search needs
 returns-2 : tie.Need-returns-2
 unfolding ticked wrap
 returns-2 c =
-    let s = c .before .before .before .before .before .before .before in
+    let s = c .before .before .before .before .before .before .before .before in
     let a = s .args in
-    let d = c .before .before .before .before .before .done-of in
-    let k = c .before .before .before .before .wrapping-add-u32 in
-    let m = c .before .before .before .first-late in
-    rows-go (a .clock) (a .phase) (a .begun) (a .deadlines .now) (a .waits .now) (a .remaining) (a .t8) (take (a .chosen .count) (a .chosen .keys)) (d .result) (d .ensures) (k .result) (m .result) (k .ensures) (m .ensures) (c .before .before .if1 .left)
-    (c .together .result) (c .together .ensures)
-    _ (ap (λ (x : Answer). record { answer = x; state = record { clock = k .result; phase = a .phase; tasks = c .together .result; remaining = a .remaining; work = a .t8 } }) (c .before .answer2 .ensures))
+    let d = c .before .before .before .before .before .before .before .done-of in
+    let k = c .before .before .before .before .before .before .wrapping-add-u32 in
+    let m = c .before .before .before .before .before .first-late in
+    rows-go (a .clock) (a .phase) (a .begun) (a .deadlines .now) (a .waits .now) (a .remaining .now) (a .work .now) (take (a .chosen .count) (a .chosen .keys)) (d .result) (d .ensures) (k .result) (m .result) (k .ensures) (m .ensures) (c .before .before .before .before .if1 .left)
+    (c .before .before .together .result) (c .before .before .together .ensures)
+    _ (ap (λ (x : Answer). record { answer = x; state = record { clock = k .result; phase = a .phase; tasks = c .before .before .together .result; remaining = a .remaining .now; work = a .work .now } }) (c .before .before .before .answer2 .ensures))
 
 pub told-spec : {M : Type 1} → statement M
 told-spec =
