@@ -1,12 +1,11 @@
 -- The same of a file's bytes: what opening and ticks give from a file that is read fits its table.
 use mathlib.Core.Path.{_≡_, refl, sym, ap, subst, _∙_}
-use mathlib.Core.Bool.{Bool, true}
+use mathlib.Core.Bool.{true}
 use mathlib.Core.List.{List}
 use Prim.Native.Nat.{ℕ, _^_, _<_}
 use Rattle.table.specs.declared.Outcome.{Outcome}
 use Rattle.table.specs.declared.Outcome.the-variants.{Read}
 use Rattle.table.specs.declared.Table.{Table}
-use Rattle.table.specs.Good.{GoodTable}
 use Rattle.table.specs.Reading.{whenRead, read}
 use Rattle.table.proofs.Sound.{read-good}
 use Rattle.machine.specs.declared.Phase.{Phase}

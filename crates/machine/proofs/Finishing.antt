@@ -15,14 +15,12 @@ use Rattle.graph.proofs.Facts.{and-true, sum-none, below-pass}
 use Rattle.graph.proofs.Cycle.{Last, last}
 use Rattle.graph.proofs.Sets.{bit-set}
 use Rattle.graph.proofs.Done.{done-zero, all-done, before-done}
-use Rattle.table.specs.declared.Outcome.{Outcome}
 use Rattle.table.specs.declared.Outcome.the-variants.{Read}
 use Rattle.table.specs.declared.Table.{Table}
 use Rattle.table.specs.Memory.{vertices, succ, edgeIn, cost}
-use Rattle.table.specs.Good.{GoodTask, GoodTable}
+use Rattle.table.specs.Good.{GoodTable}
 use Rattle.table.specs.Reading.{read}
 use Rattle.table.proofs.Sound.{read-good}
-use Rattle.machine.specs.declared.Phase.{Phase}
 use Rattle.machine.specs.declared.Phase.the-variants.{Running, Stopped}
 use Rattle.machine.specs.declared.State.{State}
 use Rattle.machine.specs.declared.Ticked.{Ticked}
@@ -31,7 +29,7 @@ use Rattle.machine.specs.Steps.{released, availables, available, worked,
 use Rattle.machine.specs.Fitting.{fits}
 use Rattle.machine.specs.Ticking.{ticked, refuse, tickOn, tick}
 use Rattle.machine.proofs.Index.{released-live, released-remaining, released-work, worked-live, worked-remaining, worked-work, ended-live, zeros-live}
-use Rattle.machine.proofs.Clauses.{LiveFits, IdleFits, task-work, live-task, idle-task}
+use Rattle.machine.proofs.Clauses.{task-work, live-task, idle-task}
 use Rattle.machine.proofs.Working.{released-keep, worked-keep, finish-test}
 use Rattle.machine.proofs.Standing.{Available, available-is, clear-is, nothing-is}
 use Rattle.machine.proofs.Ready.{all-upto}

@@ -1,13 +1,12 @@
 -- The rules of a state that fits say of a good table's task what the crate fitness says of its numbers.
 use mathlib.Core.Path.{_≡_, refl, sym, ap, _∙_}
-use mathlib.Core.Bool.{Bool, true, false, _&&_, _||_, not}
 use Prim.Native.Nat.{ℕ, _+_, _-_, _≤_, _<_}
 use native.Mathlib.Omega.{arith}
 use native.Mathlib.Decide.{ℕ-discrete, decLt}
 use native.Mathlib.Nat.{min-eq-left}
 use lib.Dec.{ltb, leb, eqb}
 use borrow.Author.Tests.{lt-ltb, le-ltb, le-leb, lt-leb, eq-eqb, ne-eqb}
-use Rattle.graph.specs.Words.{pick, all}
+use Rattle.graph.specs.Words.{pick}
 use Rattle.table.specs.declared.Table.{Table}
 use Rattle.table.specs.Memory.{task, vertices, D, T, succ, edgeIn, cost}
 use Rattle.table.specs.Good.{GoodTask, GoodTable}

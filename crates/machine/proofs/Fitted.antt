@@ -1,21 +1,20 @@
 -- A running state that fits, whose clock and deadlines are of 32 bits, stands; so fitting and standing are the same.
 use mathlib.Core.Path.{_≡_}
-use mathlib.Core.Bool.{Bool, true}
+use mathlib.Core.Bool.{true}
 use Prim.Native.Nat.{ℕ, _^_, _<_}
 use native.Mathlib.Omega.{arith}
 use native.Mathlib.Decide.{decLt}
 use Rattle.graph.proofs.Facts.{clash, off-when}
 use Rattle.table.specs.declared.Table.{Table}
-use Rattle.table.specs.Memory.{vertices, D, T}
-use Rattle.table.specs.Good.{GoodTask, GoodTable}
-use Rattle.machine.specs.declared.Phase.{Phase}
+use Rattle.table.specs.Memory.{vertices}
+use Rattle.table.specs.Good.{GoodTable}
 use Rattle.machine.specs.declared.Phase.the-variants.{Running}
 use Rattle.machine.specs.declared.State.{State}
 use Rattle.machine.specs.States.{live, deadline}
 use Rattle.machine.specs.Steps.{clear}
 use Rattle.machine.specs.Fitting.{fits}
-use Rattle.machine.proofs.Clauses.{LiveFits, IdleFits, ZeroTask, task-work, live-task, idle-task, unused-task}
-use Rattle.machine.proofs.Standing.{clear-is, nothing-is, something, Going, Resting, Standing}
+use Rattle.machine.proofs.Clauses.{task-work, live-task, idle-task, unused-task}
+use Rattle.machine.proofs.Standing.{clear-is, nothing-is, something, Going, Standing}
 
 -- what the types say of a state, as far as it is needed: the clock and the deadlines are numbers of 32 bits
 pub record InRange (st : State) : Type 0 where

@@ -6,7 +6,7 @@ use Prim.Native.Nat.{ℕ, _+_, _*_, _/_, _^_, _≤_, _<_}
 use native.Mathlib.Omega.{arith}
 use lib.ListN.{length, getD, replicate}
 use borrow.Author.Tests.{lt-ltb, le-ltb}
-use Rattle.graph.specs.Words.{pick, bit, sum, all, row, setOf}
+use Rattle.graph.specs.Words.{pick, bit, all, row, setOf}
 use Rattle.graph.proofs.Facts.{sum-none, length-row, row-at}
 use Rattle.graph.proofs.Bits.{bit-zero}
 use Rattle.table.specs.declared.Table.{Table}

@@ -12,7 +12,7 @@ use borrow.Author.Tests.{lt-ltb, ltb-false, leb-false, eqb-true}
 use Rattle.graph.specs.Words.{bit, isIn}
 use Rattle.graph.proofs.Facts.{clash, both-true, and-true, all-of, below-pass}
 use Rattle.table.specs.declared.Table.{Table}
-use Rattle.table.specs.Good.{GoodTask, GoodTable}
+use Rattle.table.specs.Good.{GoodTable}
 use Rattle.machine.specs.declared.Phase.{Phase}
 use Rattle.machine.specs.declared.Phase.the-variants.{Running, Stopped}
 use Rattle.machine.specs.declared.State.{State}
@@ -22,7 +22,7 @@ use Rattle.machine.specs.Steps.{released, available, availables, finishe
 use Rattle.machine.specs.Fitting.{zeroTaskIn, fitsPhase, fits}
 use Rattle.machine.specs.Ticking.{ticked, refuse, tickOn}
 use Rattle.machine.proofs.Index.{not-missed, wrap-small, zeros-live, zeros-wait, zeros-remaining, zeros-work}
-use Rattle.machine.proofs.Standing.{is-nothing, Going, Resting, Standing, opened-stands, stands-fits}
+use Rattle.machine.proofs.Standing.{is-nothing, Standing, opened-stands, stands-fits}
 use Rattle.machine.proofs.Moving.{mid, next, next-stands, next-live, next-deadline, next-clock, kept-live, unnamed, mid-live}
 use Rattle.machine.proofs.Own.{own-legal}
 use Rattle.machine.proofs.Lowest.{Lowest, None}

@@ -11,6 +11,12 @@ use lib.Seq.{ext-getD, getD-set-same, getD-set-other, drop-cons, drop-length, ta
 use Rattle.graph.specs.Words.{pick, row, isIn, Distinct}
 use Rattle.graph.proofs.Facts.{clash, length-row, row-at, first-in, other-in, tail-in}
 
+put-back : (l : List ℕ) (x : ℕ) → set l x (getD l x 0) ≡ l
+put-back l x = ext-getD 0 (set l x (getD l x 0)) l (length-set l x (getD l x 0)) (λ k b. elim (ℕ-discrete k x) [
+  | yes e ↦ ap (λ (j : ℕ). getD (set l x (getD l x 0)) j 0) e ∙ getD-set-same l x (getD l x 0) 0 (let z = length-set l x (getD l x 0) in omega arith) ∙ ap (λ (j : ℕ). getD l j 0) (sym e)
+  | no d ↦ getD-set-other l x k (getD l x 0) 0 d
+])
+
 -- what remains of vertex k once each of the list has run: one tick less than before
 unfoldable pub lessIn : List ℕ → List ℕ → List ℕ → ℕ → ℕ
 lessIn l before now k = pick (isIn k l) (getD before k 0 - 1) (getD now k 0)
@@ -63,6 +69,10 @@ module _ (l before : List ℕ) (j : ℕ) (now : List ℕ) (r : RanTo l before j 
             ∙ r .same k;
       })
 
+  -- a vertex of which nothing remains
+  pub ran-skip : (x : ℕ) → j < length l → x ≡ getD l j 0 → x < 256 → getD now x 0 ≡ 0 → getD before x 0 ≡ 0 → RanTo l before (j + 1) now
+  ran-skip x b e small z w = subst (RanTo l before (j + 1)) (ap (set now x) (sym z) ∙ put-back now x) (ran-one x 0 b e small (omega arith))
+
   pub ran-all : j ≡ length l → now ≡ row 256 (lessIn l before before)
   ran-all q =
       let e : drop j l ≡ [] = ap (λ (n : ℕ). drop n l) q ∙ drop-length l in
@@ -97,6 +107,9 @@ module _ (l before : List ℕ) (once : Distinct l) (j : ℕ) (now : List ℕ) (r
       let g : isIn k (drop (suc j) l) ≡ true = sym (ap (λ (n : ℕ). isIn k (drop n l)) (add-one j)) ∙ h in
       let d : k ≡ x → ⊥ = λ q. clash g (ap (λ (z : ℕ). isIn z (drop (suc j) l)) q ∙ not-again) in
       getD-set-other now x k y 0 d ∙ r k (ap (isIn k) parts ∙ tail-in k x (drop (suc j) l) g)
+
+  pub all-untouched : Untouched l before (j + 1) now
+  all-untouched = subst (Untouched l before (j + 1)) (put-back now x) (others-untouched (getD now x 0))
 
 -- of eight places as many are used as are counted, and no more than there are
 pub listed-places : (n : ℕ) (l : List ℕ) → length l ≡ 8 → take (min n 8) l ≡ take n l

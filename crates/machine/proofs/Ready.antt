@@ -22,7 +22,7 @@ use Rattle.table.specs.Memory.{vertices, succ, edgeIn}
 use Rattle.fitness.specs.Fitness.{somethingLeft}
 use Rattle.fitness.proofs.Behind.{left-in}
 use Rattle.machine.specs.declared.State.{State}
-use Rattle.machine.specs.States.{activity, isLive, live, deadlineOf, deadline, remaining, wrap, ticksLeft, left}
+use Rattle.machine.specs.States.{activity, isLive, live, remaining}
 use Rattle.machine.specs.Steps.{clear, available, availableSets}
 use Rattle.machine.specs.Choosing.{isReady, inSets}
 
@@ -125,11 +125,3 @@ in-available t st k h =
     ap (λ (n : ℕ). bit n (k % 16)) (row-at 16 _ (k / 16) 0 (omega arith))
     ∙ bit-set 16 (λ u. available t st (16 * (k / 16) + u)) (k % 16) (omega arith)
     ∙ ap (available t st) e
-
--- ---- the ticks left of all tasks
--- what the code's wrapping difference is
-pub left-by : (st : State) (i d r : ℕ) → d < 2 ^ 32 → st .clock < 2 ^ 32 → r < 2 ^ 32 → d ≡ deadlineOf (activity st i) → (r + st .clock) % 2 ^ 32 ≡ d → r ≡ left st i
-unfolding left deadline ticksLeft wrap
-left-by st i d r hd hc hr e w =
-    let s : r ≡ (d + 2 ^ 32 - st .clock) % 2 ^ 32 = omega arith in
-    s ∙ ap (λ (x : ℕ). (x + 2 ^ 32 - st .clock) % 2 ^ 32) e

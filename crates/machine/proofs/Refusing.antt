@@ -1,7 +1,7 @@
 -- A tick's refusals and the parts of its reply: for every file, table, state, release set and way to choose.
 use mathlib.Core.Path.{_≡_, refl, sym, ap, subst}
 use mathlib.Core.Logic.{_⊎_, inl, inr, ⊎-elim}
-use mathlib.Core.Bool.{Bool, true, false}
+use mathlib.Core.Bool.{false}
 use mathlib.Core.List.{List}
 use Prim.Native.Nat.{ℕ, _≤_, _<_}
 use native.Mathlib.Omega.{arith}
@@ -12,18 +12,16 @@ use Rattle.table.specs.declared.Outcome.the-variants.{Read, Short, Mark, Range,
 use Rattle.table.specs.declared.Table.{Table}
 use Rattle.table.specs.Numbers.{number, place}
 use Rattle.table.specs.Reading.{whenRead, read}
-use Rattle.machine.specs.declared.Phase.{Phase}
 use Rattle.machine.specs.declared.Phase.the-variants.{Running, Stopped}
 use Rattle.machine.specs.declared.State.{State}
-use Rattle.machine.specs.declared.Opened.{Opened}
 use Rattle.machine.specs.declared.Ticked.{Ticked}
 use Rattle.machine.specs.States.{zeros, unopened, openRead, opening}
 use Rattle.machine.specs.Steps.{missed}
 use Rattle.machine.specs.Fitting.{fits}
-use Rattle.machine.specs.Ticking.{nobody, ticked, refuse, whenRunning, tickOn, tickRead, tickBy}
+use Rattle.machine.specs.Ticking.{nobody, ticked, refuse, tickOn, tickRead, tickBy}
 use Rattle.machine.proofs.Clauses.{stopped-below}
 use Rattle.machine.proofs.Lowest.{Lowest, None}
-use Rattle.machine.proofs.Cases.{beyond, tooSoon, afterEnds, Admitted, Case, unfit, halted, no-task, early, misses, goes-on, cases}
+use Rattle.machine.proofs.Cases.{beyond, tooSoon, afterEnds, Case, unfit, halted, no-task, early, misses, goes-on, cases}
 
 -- ---- reading's outcome: it read, or it refused with a number from 1 to 8
 pub refusal-number : (o : Outcome) → (o ≡ Read → ⊥) → (1 ≤ number o) × (number o ≤ 8)

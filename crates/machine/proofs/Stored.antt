@@ -1,14 +1,12 @@
 -- THE STORED WORK IS KEPT (document 02, M-104): "opening, release, running, finishing and stopping keep it equal to the sum of its vertices'
 -- remainings", and so does a refused tick; for every table, every way to choose and every release set.
-use mathlib.Core.Path.{_≡_, refl, sym, ap, subst, _∙_}
+use mathlib.Core.Path.{_≡_, refl, sym, subst, _∙_}
 use mathlib.Core.Logic.{⊎-elim}
-use mathlib.Core.Bool.{Bool, true, _&&_}
+use mathlib.Core.Bool.{true, _&&_}
 use mathlib.Core.List.{List}
 use Prim.Native.Nat.{ℕ, _<_}
 use Rattle.graph.proofs.Facts.{sum-none}
-use Rattle.table.specs.declared.Outcome.{Outcome}
 use Rattle.table.specs.declared.Table.{Table}
-use Rattle.table.specs.Numbers.{number, place}
 use Rattle.table.specs.Reading.{read}
 use Rattle.machine.specs.declared.Phase.{Phase}
 use Rattle.machine.specs.declared.Phase.the-variants.{Running, Stopped}
@@ -20,7 +18,7 @@ use Rattle.machine.specs.Steps.{released, ownChoice, finishes, finished,
 use Rattle.machine.specs.Fitting.{fits}
 use Rattle.machine.specs.Ticking.{ticked, refuse, tickOn, tickBy, tick}
 use Rattle.machine.proofs.Working.{WorkKept, zeros-keep, released-keep, worked-keep, ended-keep, finish-test}
-use Rattle.machine.proofs.Clauses.{ZeroTask, task-work, stopped-zero}
+use Rattle.machine.proofs.Clauses.{task-work, stopped-zero}
 use Rattle.machine.proofs.Standing.{nothing-is}
 use Rattle.machine.proofs.Cases.{chosenIn, afterWork, afterEnds, Case, unfit, halted, no-task, early, misses, goes-on, cases}
 use Rattle.machine.proofs.Refusing.{refusal-stops, read-or-not, either-way}

@@ -1,6 +1,6 @@
 -- One off a task's work for each vertex of a list of which something remains, one after the other: what is left to do from here gives what all
 -- of it gives from the start.
-use mathlib.Core.Path.{_≡_, refl, sym, ap, ap₂, subst, _∙_}
+use mathlib.Core.Path.{_≡_, refl, sym, ap, ap₂, _∙_}
 use mathlib.Core.Bool.{Bool, true, false, _&&_}
 use mathlib.Core.List.{List, [], _∷_}
 use Prim.Native.Nat.{ℕ, suc, _+_, _*_, _-_, _/_, _%_, _<_}
@@ -9,11 +9,18 @@ use native.Mathlib.Numerals.{add-one}
 use native.Mathlib.Decide.{ℕ-discrete}
 use lib.ListN.{length, getD, set, length-set, drop}
 use lib.Seq.{ext-getD, getD-set-same, getD-set-other, drop-cons, drop-length}
-use lib.Dec.{ltb, eqb}
-use borrow.Author.Tests.{lt-ltb, le-ltb, eq-eqb, ne-eqb}
-use Rattle.graph.specs.Words.{flag, row, sum, isIn}
+use lib.Dec.{ltb}
+use borrow.Author.Tests.{lt-ltb, le-ltb}
+use Rattle.graph.specs.Words.{flag, pick, row, sum, isIn, Distinct}
 use Rattle.graph.proofs.Facts.{length-row, row-at, first-in, other-in, sum-same, sum-none, sum-set}
-use Rattle.machine.specs.Choosing.{runIn}
+use Rattle.machine.specs.declared.State.{State}
+use Rattle.machine.specs.States.{remaining}
+use Rattle.machine.specs.Steps.{runOf}
+use Rattle.machine.proofs.Ran.{lessIn, RanTo, ran-none, ran-one, ran-skip, ran-all, Untouched, next-untouched, not-again, others-untouched, all-untouched}
+
+-- how many of task i's vertices run, by the row of what remains
+unfoldable pub runIn : List ℕ → List ℕ → ℕ → ℕ
+runIn l rest i = sum 16 (λ u. flag (isIn (16 * i + u) l && ltb 0 (getD rest (16 * i + u) 0)))
 
 flags : (flag true ≡ 1) × (flag false ≡ 0)
 unfolding flag
@@ -63,12 +70,6 @@ module _ (x : ℕ) (l rest : List ℕ) (i : ℕ) where
     run-own e =
         let q : 16 * i + x % 16 ≡ x = omega arith in
         sum-set 16 _ _ 1 (x % 16) (omega arith) (λ u d. elsewhere (16 * i + u) (λ z. d (omega arith))) (rw q here)
-
-put-back : (l : List ℕ) (x : ℕ) → set l x (getD l x 0) ≡ l
-put-back l x = ext-getD 0 (set l x (getD l x 0)) l (length-set l x (getD l x 0)) (λ k b. elim (ℕ-discrete k x) [
-  | yes e ↦ ap (λ (j : ℕ). getD (set l x (getD l x 0)) j 0) e ∙ getD-set-same l x (getD l x 0) 0 (let z = length-set l x (getD l x 0) in omega arith) ∙ ap (λ (j : ℕ). getD l j 0) (sym e)
-  | no d ↦ getD-set-other l x k (getD l x 0) 0 d
-])
 
 -- the first j of the list are through; `left` is what remains of those that are not
 pub record OffTo (l rest before : List ℕ) (j : ℕ) (left work : List ℕ) : Type 0 where
@@ -120,13 +121,6 @@ module _ (l rest before : List ℕ) (j : ℕ) (left work : List ℕ) (r : OffTo 
               ap₂ (λ (a n : ℕ). a - n) (getD-set-other work (x / 16) i w 0 d) (sym (run-other x (drop (suc j) l) left i y h s once d))
         ]
 
-  -- one that runs, where what remains stays as it is and none is listed twice
-  pub off-run : (x w : ℕ) → left ≡ rest → j < length l → x ≡ getD l j 0 → x < 256 → 0 < getD rest x 0 → isIn x (drop (suc j) l) ≡ false → w ≡ getD work (x / 16) 0 - 1
-      → OffTo l rest before (j + 1) rest (set work (x / 16) w)
-  off-run x w q b e small s once h =
-      subst (λ (z : List ℕ). OffTo l rest before (j + 1) z (set work (x / 16) w)) (put-back left x ∙ q)
-      (off-one x b e (getD left x 0) w small (let z = ap (λ (m : List ℕ). getD m x 0) q in omega arith) (ap (λ (c : Bool). c && ltb 0 (getD left x 0)) once) h)
-
   pub off-all : j ≡ length l → work ≡ row 16 (λ i. getD before i 0 - runIn l rest i)
   off-all q =
       let e : drop j l ≡ [] = ap (λ (n : ℕ). drop n l) q ∙ drop-length l in
@@ -137,3 +131,38 @@ module _ (l rest before : List ℕ) (j : ℕ) (left work : List ℕ) (r : OffTo 
       let s = r .same i h in
       let z : getD work i 0 ≡ getD before i 0 - runIn l rest i = omega arith in
       z ∙ sym (row-at 16 (λ i. getD before i 0 - runIn l rest i) i 0 h))
+
+-- ---- both at once, of a list in which none is twice: the first j have run
+pub record Runs (l rest before : List ℕ) (j : ℕ) (left work : List ℕ) : Type 0 where
+  pub ran : RanTo l rest j left
+  pub kept : Untouched l rest j left
+  pub off : OffTo l rest before j left work
+
+pub runs-none : (l rest before : List ℕ) → length rest ≡ 256 → length before ≡ 16 → Runs l rest before 0 rest before
+runs-none l rest before h e = record { ran = ran-none l rest h; kept = λ k q. refl; off = off-none l rest before h e }
+
+module _ (l rest before : List ℕ) (j : ℕ) (left work : List ℕ) (r : Runs l rest before j left work) where
+  module _ (once : Distinct l) (x : ℕ) (b : j < length l) (e : x ≡ getD l j 0) (small : x < 256) where
+    same-yet : getD left x 0 ≡ getD rest x 0
+    same-yet = next-untouched l rest once j left (r .kept) x b e
+
+    pub runs-one : (y w : ℕ) → 0 < getD left x 0 → y ≡ getD left x 0 - 1 → w ≡ getD work (x / 16) 0 - 1 → Runs l rest before (j + 1) (set left x y) (set work (x / 16) w)
+    runs-one y w s p q = record {
+      ran = ran-one l rest j left (r .ran) x y b e small (p ∙ ap (λ (z : ℕ). z - 1) same-yet);
+      kept = others-untouched l rest once j left (r .kept) x b e y;
+      off = off-one l rest before j left work (r .off) x b e y w small s (ap (λ (c : Bool). c && ltb 0 y) (not-again l rest once j left (r .kept) x b e)) q;
+    }
+
+    pub runs-skip : getD left x 0 ≡ 0 → Runs l rest before (j + 1) left work
+    runs-skip z = record {
+      ran = ran-skip l rest j left (r .ran) x b e small z (sym same-yet ∙ z);
+      kept = all-untouched l rest once j left (r .kept) x b e;
+      off = off-skip l rest before j left work (r .off) x b e z;
+    }
+
+  pub runs-all : j ≡ length l → (left ≡ row 256 (λ k. pick (isIn k l) (getD rest k 0 - 1) (getD rest k 0))) × ((st : State) → st .remaining ≡ rest → work ≡ row 16 (λ i. getD before i 0 - runOf st i l))
+  unfolding lessIn runIn runOf remaining
+  runs-all q = (
+    ran-all l rest j left (r .ran) q,
+    λ st h. off-all l rest before j left work (r .off) q ∙ ap (λ (m : List ℕ). row 16 (λ i. getD before i 0 - runIn l m i)) (sym h),
+  )

@@ -20,16 +20,8 @@ use Rattle.machine.proofs.opening.zeros.Kinds as zeros-kinds
 use Rattle.machine.proofs.opening.zeros.Reads as zeros-reads
 use Rattle.machine.proofs.State.tick.Kinds as tick-kinds
 use Rattle.machine.proofs.State.tick.Reads as tick-reads
-use Rattle.machine.proofs.steps.release.Kinds as release-kinds
-use Rattle.machine.proofs.steps.release.Reads as release-reads
-use Rattle.machine.proofs.choosing.ticks_left.Kinds as ticks-left-kinds
-use Rattle.machine.proofs.choosing.ticks_left.Reads as ticks-left-reads
-use Rattle.machine.proofs.choosing.available_sets.Kinds as available-sets-kinds
-use Rattle.machine.proofs.choosing.available_sets.Reads as available-sets-reads
 use Rattle.machine.proofs.showing.live_set.Kinds as live-set-kinds
 use Rattle.machine.proofs.showing.live_set.Reads as live-set-reads
-use Rattle.machine.proofs.ticking.advance_from.Kinds as advance-from-kinds
-use Rattle.machine.proofs.ticking.advance_from.Reads as advance-from-reads
 use Rattle.machine.proofs.ticking.advance.Kinds as advance-kinds
 use Rattle.machine.proofs.ticking.advance.Reads as advance-reads
 use Rattle.machine.proofs.ticking.offered.Kinds as offered-kinds
@@ -50,23 +42,11 @@ zeros-one κs args x y s t = by-definition
 pub tick-one : OneResult 1 tick-kinds.ps tick-kinds.r tick-reads.Post
 tick-one κs args x y s t = by-definition
 
--- the steps by themselves
-pub release-one : OneResult 0 release-kinds.ps release-kinds.r release-reads.Post
-release-one κs args x y s t = by-definition
-
-pub available-sets-one : OneResult 0 available-sets-kinds.ps available-sets-kinds.r available-sets-reads.Post
-available-sets-one κs args x y s t = by-definition
-
-pub ticks-left-one : OneResult 0 ticks-left-kinds.ps ticks-left-kinds.r ticks-left-reads.Post
-ticks-left-one κs args x y s t = by-definition
-
 -- the set of live tasks, for the screen
 pub live-set-one : OneResult 0 live-set-kinds.ps live-set-kinds.r live-set-reads.Post
 live-set-one κs args x y s t = by-definition
 
-pub advance-from-one : OneResult 0 advance-from-kinds.ps advance-from-kinds.r advance-from-reads.Post
-advance-from-one κs args x y s t = by-definition
-
+-- the steps with a given choice, and what a choice goes by
 pub advance-one : OneResult 0 advance-kinds.ps advance-kinds.r advance-reads.Post
 advance-one κs args x y s t = by-definition
 

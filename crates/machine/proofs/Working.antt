@@ -8,7 +8,7 @@ use native.Mathlib.Omega.{arith}
 use native.Mathlib.Decide.{decLt}
 use lib.Dec.{ltb, eqb}
 use borrow.Author.Tests.{lt-ltb, le-ltb}
-use Rattle.graph.specs.Words.{flag, pick, bit, sum, all, isIn}
+use Rattle.graph.specs.Words.{flag, pick, bit, sum, isIn}
 use Rattle.graph.proofs.Facts.{sum-same, sum-none, sum-add}
 use Rattle.table.specs.declared.Table.{Table}
 use Rattle.table.specs.Memory.{cost}

@@ -3,17 +3,20 @@
 use mathlib.Core.Path.{_≡_}
 use mathlib.Core.Bool.{Bool, _&&_, not}
 use mathlib.Core.List.{List}
-use Prim.Native.Nat.{ℕ, _+_, _*_, _/_, _%_, _≤_, _<_, min}
+use Prim.Native.Nat.{ℕ, _+_, _-_, _*_, _/_, _%_, _≤_, _<_, min}
 use lib.ListN.{getD}
 use lib.Dec.{ltb, leb, eqb}
-use Rattle.graph.specs.Words.{flag, pick, bit, sum, all, isIn, lowestOr}
+use Rattle.graph.specs.Words.{pick, bit, all, row, lowestOr}
 use Rattle.graph.specs.Graph.{edge, heldBack}
 use Rattle.table.specs.declared.Table.{Table}
 use Rattle.table.specs.Memory.{task}
 use Rattle.fitness.specs.Fitness.{zeroTask, taskFits}
 use Rattle.machine.specs.declared.Phase.{Phase}
 use Rattle.machine.specs.declared.Phase.the-variants.{Running, Stopped}
+use Rattle.machine.specs.declared.Activity.the-variants.{Idle, Live}
+use Rattle.machine.specs.declared.State.{State}
 use Rattle.machine.specs.declared.Reply.{Reply}
+use Rattle.machine.specs.States.{wrap}
 
 -- step 2, by a task's successors, its v and the row of what remains: it has something remaining, and no direct predecessor that is not
 -- done; a vertex from v on leads nowhere
@@ -31,10 +34,6 @@ pub record RanksFirst (n : ℕ) (sets left : List ℕ) (i : ℕ) : Type 0 where
   pub some : (i ≡ 16 → ⊥) → 0 < getD sets i 0
   pub fewest : (i ≡ 16 → ⊥) → (j : ℕ) → j < n → 0 < getD sets j 0 → getD left i 0 ≤ getD left j 0
   pub lowest : (i ≡ 16 → ⊥) → (j : ℕ) → j < n → 0 < getD sets j 0 → getD left i 0 ≡ getD left j 0 → i ≤ j
-
--- step 4: how many vertices of task i a list has of which something remains, by the row of what remains
-unfoldable pub runIn : List ℕ → List ℕ → ℕ → ℕ
-runIn l rest i = sum 16 (λ u. flag (isIn (16 * i + u) l && ltb 0 (getD rest (16 * i + u) 0)))
 
 -- which states fit, by the set of live tasks and the rows of ticks left, waits, work and what remains: the clauses are crate fitness'
 unfoldable pub fitsBy : Phase → Table → List ℕ → ℕ → List ℕ → List ℕ → List ℕ → List ℕ → Bool
@@ -55,3 +54,13 @@ refusalIn (Stopped k) named n waits = replyOf 32 255
 
 unfoldable pub refusalOf : Bool → Phase → ℕ → ℕ → List ℕ → Reply
 refusalOf fits phase named n waits = pick fits (refusalIn phase named n waits) (replyOf 30 255)
+
+-- steps 5 and 6: the state after step 4, by the set of live tasks and the rows; each wait still has the one that this tick takes
+unfoldable pub rowsAfter : ℕ → Phase → ℕ → List ℕ → List ℕ → List ℕ → List ℕ → State
+rowsAfter clock phase live deadlines waits rest work = record {
+  clock = wrap (clock + 1);
+  phase = phase;
+  tasks = row 16 (λ i. record { activity = pick (bit live i) (Live (getD deadlines i 0) (getD waits i 0 - 1)) (Idle (getD waits i 0 - 1)) });
+  remaining = rest;
+  work = work;
+}

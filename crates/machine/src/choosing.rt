@@ -4,26 +4,17 @@ ghost use mathlib.Core.Bool.{_&&_, not, true, false};
 ghost use Prim.Native.Nat.{ℕ, _+_, _≤_, _<_};
 ghost use lib.ListN.{length, getD, take};
 ghost use lib.Dec.{eqb};
-ghost use Rattle.graph.specs.Words.{bit, row, setOf};
+ghost use Rattle.graph.specs.Words.{bit, row, isIn, Distinct, setOf};
 ghost use Rattle.table.specs.declared.Table.{Table};
 ghost use Rattle.machine.specs.declared.State.{State};
-ghost use Rattle.machine.specs.States.{activity, isLive, deadlineOf, left};
-ghost use Rattle.machine.specs.Steps.{availableSets, ownChoice};
+ghost use Rattle.machine.specs.States.{activity, isLive, live, deadline, left};
+ghost use Rattle.machine.specs.Steps.{availableSets, ownChoice, listed};
 ghost use Rattle.machine.specs.Choosing.{isReady, RanksFirst};
-use crate::Activity;
 use crate::Chosen;
 use crate::State;
+use crate::held;
+use crate::numbers;
 use table::Table;
-
-// A live job's deadline; 0 where there is none.
-pub(crate) fn deadline_of(a: Activity) -> u32
-    ensures { λ r. ⌜ r ≡ deadlineOf a ⌝ }
-{
-    match a {
-        Activity::Idle { wait } => 0,
-        Activity::Live { deadline, wait } => deadline,
-    }
-}
 
 // The vertices of task i with something remaining to which none of the first v leads that is not done.
 fn ready_in(succ: [u16; 16], v: usize, remaining: &[u32; 256], i: usize) -> u16
@@ -40,36 +31,6 @@ fn ready(succ: [u16; 16], v: usize, remaining: &[u32; 256], i: usize) -> u16
     ensures { λ r. ⌜ (r ≡ setOf 16 (isReady succ v (now (remaining .entry)) i)) × (length succ ≡ 16) ⌝ }
 {
     ready_in(succ, v, remaining, i)
-}
-
-// Task i's available vertices: those of a live job; an idle task has none.
-fn available_in(a: Activity, succ: [u16; 16], v: usize, remaining: &[u32; 256], i: usize) -> u16
-    requires { ⌜ i < 16 ⌝ }
-    ensures { λ r. ⌜ (r ≡ setOf 16 (λ u. isLive a && isReady succ v (now (remaining .entry)) i u)) × (length succ ≡ 16) ⌝ }
-{
-    match a {
-        Activity::Idle { wait } => 0,
-        Activity::Live { deadline, wait } => ready_in(succ, v, remaining, i),
-    }
-}
-
-// Step 2: each task's available vertices. Only what is looked at is copied.
-pub fn available_sets(t: Table, st: State) -> [u16; 16]
-    ensures { λ r. ⌜ r ≡ availableSets t st ⌝ }
-{
-    let tasks = t.tasks;
-    let states = st.tasks;
-    let left = st.remaining;
-    let mut sets = [0u16; 16];
-    for i in 0..16usize {
-        let s = states[i];
-        let a = s.activity;
-        let x = tasks[i];
-        let succ = x.succ;
-        let v = x.v as usize;
-        sets[i] = available_in(a, succ, v, &left, i);
-    }
-    sets
 }
 
 // Step 2 of the tasks in a set: the available vertices of each, with what remains in a row that is lent.
@@ -90,19 +51,6 @@ pub(crate) fn sets_of(t: Table, live: u16, remaining: &[u32; 256]) -> [u16; 16]
         }
     }
     sets
-}
-
-// Each task's ticks left.
-pub fn ticks_left(st: State) -> [u32; 16]
-    ensures { λ r. ⌜ r ≡ row 16 (left st) ⌝ }
-{
-    let mut ticks = [0u32; 16];
-    for i in 0..16usize {
-        let s = st.tasks[i];
-        let a = s.activity;
-        ticks[i] = std::num::wrapping_sub_u32(deadline_of(a), st.clock);
-    }
-    ticks
 }
 
 // The task that ranks first of those up to i, `best` being that of those before it.
@@ -172,6 +120,55 @@ pub(crate) fn choose(m: u8, n: usize, given: [u16; 16], ticks: &[u32; 16]) -> Ch
         keys[count] = (16 * i + u) as u8;
         sets[i] = without(sets[i], u);
         count += 1;
+    }
+    Chosen {
+        keys: keys,
+        count: count,
+    }
+}
+
+// Steps 2 and 3: the machine's own choice, by the set of tasks that are live once step 1 is made; none of them is from n on.
+pub(crate) fn own_choice(
+    t: Table,
+    clock: u32,
+    begun: u16,
+    deadlines: &[u32; 16],
+    remaining: &[u32; 256],
+) -> Chosen
+    requires { ⌜ (t .m ≤ 8) × (t .n ≤ 16) × ((i : ℕ) → i < 16 → t .n ≤ i → bit begun i ≡ false) ⌝ }
+    ensures { λ r. ⌜ ((st : State) → st .clock ≡ clock → st .remaining ≡ now (remaining .entry) → ((i : ℕ) → i < 16 → bit begun i ≡ live st i) → ((i : ℕ) → i < 16 → getD (now (deadlines .entry)) i 0 ≡ deadline st i) → listed r ≡ ownChoice t st) ⌝ }
+{
+    let left = held::left_of(deadlines, clock);
+    let sets = sets_of(t, begun, remaining);
+    choose(t.m, t.n as usize, sets, &left)
+}
+
+// Whether vertex k is among the first `count`.
+fn holds(keys: &[u8; 8], count: usize, k: u8) -> bool
+    requires { ⌜ (count ≤ 8) × (length (now keys) ≡ 8) ⌝ }
+    ensures { λ r. ⌜ r ≡ isIn k (take count (now (keys .entry))) ⌝ }
+{
+    for i in 0..count {
+        if keys[i] == k {
+            return true;
+        }
+    }
+    false
+}
+
+// The vertices that a choice lists, none of them twice.
+pub(crate) fn once(chosen: Chosen) -> Chosen
+    ensures { λ r. ⌜ Distinct (listed r) × ((k : ℕ) → isIn k (listed r) ≡ isIn k (listed chosen)) ⌝ }
+{
+    let many = numbers::places(chosen.count);
+    let given = chosen.keys;
+    let mut keys = [0u8; 8];
+    let mut count: usize = 0;
+    for j in 0..many {
+        if !holds(&keys, count, given[j]) {
+            keys[count] = given[j];
+            count += 1;
+        }
     }
     Chosen {
         keys: keys,

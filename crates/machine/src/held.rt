@@ -7,8 +7,37 @@ ghost use Rattle.machine.specs.declared.Activity.the-variants.{Idle, Liv
 ghost use Rattle.machine.specs.States.{idle, isLive, waitOf, deadlineOf, ticksLeft};
 use crate::Activity;
 use crate::TaskState;
-use crate::choosing;
-use crate::steps;
+use crate::numbers;
+
+// A task's wait.
+fn wait_of(a: Activity) -> u32
+    ensures { λ r. ⌜ r ≡ waitOf a ⌝ }
+{
+    match a {
+        Activity::Idle { wait } => wait,
+        Activity::Live { deadline, wait } => wait,
+    }
+}
+
+// Whether its job is live.
+fn is_live(a: Activity) -> bool
+    ensures { λ r. ⌜ r ≡ isLive a ⌝ }
+{
+    match a {
+        Activity::Idle { wait } => false,
+        Activity::Live { deadline, wait } => true,
+    }
+}
+
+// A live job's deadline; 0 where there is none.
+fn deadline_of(a: Activity) -> u32
+    ensures { λ r. ⌜ r ≡ deadlineOf a ⌝ }
+{
+    match a {
+        Activity::Idle { wait } => 0,
+        Activity::Live { deadline, wait } => deadline,
+    }
+}
 
 // The live tasks.
 pub(crate) fn live_set(states: [TaskState; 16]) -> u16
@@ -18,8 +47,8 @@ pub(crate) fn live_set(states: [TaskState; 16]) -> u16
     for i in 0..16usize {
         let s = states[i];
         let a = s.activity;
-        if steps::is_live(a) {
-            let member = steps::power(i);
+        if is_live(a) {
+            let member = numbers::power(i);
             set += member;
         }
     }
@@ -34,7 +63,7 @@ pub(crate) fn deadlines_of(states: [TaskState; 16]) -> [u32; 16]
     for i in 0..16usize {
         let s = states[i];
         let a = s.activity;
-        deadlines[i] = choosing::deadline_of(a);
+        deadlines[i] = deadline_of(a);
     }
     deadlines
 }
@@ -47,7 +76,7 @@ pub(crate) fn waits_of(states: [TaskState; 16]) -> [u32; 16]
     for i in 0..16usize {
         let s = states[i];
         let a = s.activity;
-        waits[i] = steps::wait_of(a);
+        waits[i] = wait_of(a);
     }
     waits
 }
@@ -94,7 +123,7 @@ pub(crate) fn together(live: u16, deadlines: &[u32; 16], waits: &[u32; 16]) -> [
     };
     let mut tasks = [none; 16];
     for i in 0..16usize {
-        let wait = steps::less(waits[i]);
+        let wait = numbers::less(waits[i]);
         tasks[i] = entry((live >> i) % 2 == 1, deadlines[i], wait);
     }
     tasks

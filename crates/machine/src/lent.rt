@@ -1,17 +1,17 @@
 // The steps of a tick where the rows lie: each is lent and changed in place.
 ghost use mathlib.Core.Path.{_≡_};
 ghost use mathlib.Core.Bool.{_&&_};
-ghost use Prim.Native.Nat.{ℕ, _+_, _-_, _/_, _<_};
+ghost use Prim.Native.Nat.{_+_, _-_, _/_, _<_};
 ghost use lib.ListN.{length, getD};
 ghost use lib.Dec.{ltb, eqb};
 ghost use Rattle.graph.specs.Words.{pick, bit, row, isIn, Distinct, lowest, setOf};
 ghost use Rattle.table.specs.Memory.{D, T};
 ghost use Rattle.fitness.specs.Fitness.{workLeft};
 ghost use Rattle.machine.specs.States.{wrap};
-ghost use Rattle.machine.specs.Steps.{listed};
-ghost use Rattle.machine.specs.Choosing.{runIn};
+ghost use Rattle.machine.specs.declared.State.{State};
+ghost use Rattle.machine.specs.Steps.{listed, runOf};
 use crate::Chosen;
-use crate::steps;
+use crate::numbers;
 use table::Table;
 
 // Whether task i is named though it has to wait.
@@ -29,7 +29,7 @@ fn is_early(named: u16, waits: &[u32; 16], i: u8) -> bool
 pub(crate) fn first_early(named: u16, n: u8, waits: &[u32; 16]) -> u8
     ensures { λ r. ⌜ r ≡ lowest 16 n (λ i. bit named i && ltb 0 (getD (now (waits .entry)) i 0)) ⌝ }
 {
-    let used = steps::entries(n);
+    let used = numbers::entries(n);
     for i in 0..used {
         if is_early(named, waits, i) {
             return i;
@@ -53,13 +53,7 @@ fn begin_named(t: Table, clock: u32, named: u16, deadlines: &mut [u32; 16], wait
 }
 
 // The same; where none is named the table is not looked at.
-pub(crate) fn begin(
-    t: Table,
-    clock: u32,
-    named: u16,
-    deadlines: &mut [u32; 16],
-    waits: &mut [u32; 16],
-)
+fn begin(t: Table, clock: u32, named: u16, deadlines: &mut [u32; 16], waits: &mut [u32; 16])
     requires { ⌜ (length (now deadlines) ≡ 16) × (length (now waits) ≡ 16) ⌝ }
     ensures { λ r. ⌜ (now (deadlines .exit) ≡ row 16 (λ i. pick (bit named i) (wrap (clock + D t i)) (getD (now (deadlines .entry)) i 0))) × (now (waits .exit) ≡ row 16 (λ i. pick (bit named i) (T t i) (getD (now (waits .entry)) i 0))) ⌝ }
 {
@@ -80,7 +74,7 @@ fn put_task(costs: &[u32; 256], i: usize, remaining: &mut [u32; 256])
 }
 
 // Step 1 of what remains: the costs of the tasks named.
-pub(crate) fn put_costs(costs: &[u32; 256], named: u16, remaining: &mut [u32; 256])
+fn put_costs(costs: &[u32; 256], named: u16, remaining: &mut [u32; 256])
     requires { ⌜ length (now remaining) ≡ 256 ⌝ }
     ensures { λ r. ⌜ now (remaining .exit) ≡ row 256 (λ k. pick (bit named (k / 16)) (getD (now (costs .entry)) k 0) (getD (now (remaining .entry)) k 0)) ⌝ }
 {
@@ -95,7 +89,7 @@ pub(crate) fn put_costs(costs: &[u32; 256], named: u16, remaining: &mut [u32; 25
 }
 
 // Step 1 of the work: the costs of the tasks named, added up.
-pub(crate) fn put_work(costs: &[u32; 256], named: u16, work: &mut [u64; 16])
+fn put_work(costs: &[u32; 256], named: u16, work: &mut [u64; 16])
     requires { ⌜ length (now work) ≡ 16 ⌝ }
     ensures { λ r. ⌜ now (work .exit) ≡ row 16 (λ i. pick (bit named i) (workLeft (now (costs .entry)) i) (getD (now (work .entry)) i 0)) ⌝ }
 {
@@ -109,35 +103,40 @@ pub(crate) fn put_work(costs: &[u32; 256], named: u16, work: &mut [u64; 16])
     }
 }
 
-// Step 4 of the work: one off for each vertex chosen of which something remains, none of them twice.
-pub(crate) fn work_off(chosen: Chosen, remaining: &[u32; 256], work: &mut [u64; 16])
-    requires { ⌜ Distinct (listed chosen) × (length (now remaining) ≡ 256) × (length (now work) ≡ 16) ⌝ }
-    ensures { λ r. ⌜ now (work .exit) ≡ row 16 (λ i. getD (now (work .entry)) i 0 - runIn (listed chosen) (now (remaining .entry)) i) ⌝ }
+// Step 1 where the rows lie.
+pub(crate) fn release(
+    t: Table,
+    clock: u32,
+    costs: &[u32; 256],
+    named: u16,
+    deadlines: &mut [u32; 16],
+    waits: &mut [u32; 16],
+    remaining: &mut [u32; 256],
+    work: &mut [u64; 16],
+)
+    requires { ⌜ (length (now deadlines) ≡ 16) × (length (now waits) ≡ 16) × (length (now remaining) ≡ 256) × (length (now work) ≡ 16) ⌝ }
+    ensures { λ r. ⌜ (now (deadlines .exit) ≡ row 16 (λ i. pick (bit named i) (wrap (clock + D t i)) (getD (now (deadlines .entry)) i 0))) × (now (waits .exit) ≡ row 16 (λ i. pick (bit named i) (T t i) (getD (now (waits .entry)) i 0))) × (now (remaining .exit) ≡ row 256 (λ k. pick (bit named (k / 16)) (getD (now (costs .entry)) k 0) (getD (now (remaining .entry)) k 0))) × (now (work .exit) ≡ row 16 (λ i. pick (bit named i) (workLeft (now (costs .entry)) i) (getD (now (work .entry)) i 0))) ⌝ }
 {
-    let count = steps::places(chosen.count);
-    let keys = chosen.keys;
-    let mut j: usize = 0;
-    while j < count {
-        let k = steps::wide(keys[j]);
-        if remaining[k] != 0 {
-            work[k / 16] = steps::one_off(work[k / 16]);
-        }
-        j += 1;
-    }
+    begin(t, clock, named, &mut *deadlines, &mut *waits);
+    put_costs(costs, named, &mut *remaining);
+    put_work(costs, named, &mut *work);
 }
 
-// Step 4 of what remains: one tick less for each vertex chosen, none of them twice.
-pub(crate) fn run(chosen: Chosen, remaining: &mut [u32; 256])
-    requires { ⌜ Distinct (listed chosen) × (length (now remaining) ≡ 256) ⌝ }
-    ensures { λ r. ⌜ now (remaining .exit) ≡ row 256 (λ k. pick (isIn k (listed chosen)) (getD (now (remaining .entry)) k 0 - 1) (getD (now (remaining .entry)) k 0)) ⌝ }
+// Step 4 of what remains and of the work: one tick less for each vertex chosen of which something remains, none of them twice.
+pub(crate) fn run(chosen: Chosen, remaining: &mut [u32; 256], work: &mut [u64; 16])
+    requires { ⌜ Distinct (listed chosen) × (length (now remaining) ≡ 256) × (length (now work) ≡ 16) ⌝ }
+    ensures { λ r. ⌜ (now (remaining .exit) ≡ row 256 (λ k. pick (isIn k (listed chosen)) (getD (now (remaining .entry)) k 0 - 1) (getD (now (remaining .entry)) k 0))) × ((st : State) → st .remaining ≡ now (remaining .entry) → now (work .exit) ≡ row 16 (λ i. getD (now (work .entry)) i 0 - runOf st i (listed chosen))) ⌝ }
 {
-    let count = steps::places(chosen.count);
+    let count = numbers::places(chosen.count);
     let keys = chosen.keys;
     let mut j: usize = 0;
     while j < count {
-        let k = steps::wide(keys[j]);
-        let after = steps::less(remaining[k]);
-        remaining[k] = after;
+        let k = numbers::wide(keys[j]);
+        if remaining[k] != 0 {
+            let after = numbers::less(remaining[k]);
+            remaining[k] = after;
+            work[k / 16] = numbers::one_off(work[k / 16]);
+        }
         j += 1;
     }
 }
@@ -160,7 +159,7 @@ pub(crate) fn done_of(live: u16, work: &[u64; 16]) -> u16
     let mut set: u16 = 0;
     for i in 0..16usize {
         if ends(live, work, i) {
-            let member = steps::power(i);
+            let member = numbers::power(i);
             set += member;
         }
     }

@@ -1,14 +1,14 @@
 // The tick: its steps one after the other, and its refusals. The definitions are in specs/Ticking.antt.
 ghost use mathlib.Core.Path.{_≡_};
 ghost use mathlib.Core.Bool.{_&&_};
-ghost use Prim.Native.Nat.{ℕ, _≤_, _<_};
+ghost use Prim.Native.Nat.{_≤_, _<_};
 ghost use lib.Dec.{ltb, leb};
 ghost use Rattle.graph.specs.Words.{bit, lowest};
-ghost use Rattle.machine.specs.States.{waitOf, wait};
+ghost use Rattle.machine.specs.States.{wait};
 ghost use Rattle.table.specs.Good.{GoodTable};
-ghost use Rattle.machine.specs.Steps.{offered, ownChoice, listed, worked};
-ghost use Rattle.machine.specs.Choosing.{replyOf, refusalOf};
-ghost use Rattle.machine.specs.Ticking.{nobody, pairOf, runList, ticked, judged, advanceTo, advance, refuse, tickOn};
+ghost use Rattle.machine.specs.Steps.{offered, ownChoice, listed};
+ghost use Rattle.machine.specs.Choosing.{fitsBy, replyOf, refusalOf, rowsAfter};
+ghost use Rattle.machine.specs.Ticking.{nobody, pairOf, runList, advanceTo, advance, refuse, tickOn};
 use crate::Answer;
 use crate::Chosen;
 use crate::Offer;
@@ -16,14 +16,12 @@ use crate::Pair;
 use crate::Phase;
 use crate::Reply;
 use crate::State;
-use crate::TaskState;
 use crate::Ticked;
 use crate::choosing;
 use crate::fitting;
 use crate::held;
 use crate::lent;
 use crate::opening;
-use crate::steps;
 use table::Table;
 
 // An unused place of a run list.
@@ -82,16 +80,6 @@ fn answer(number: u8, task: u8, chosen: Chosen, done: u16) -> Answer
     }
 }
 
-// The same with a state.
-fn told(number: u8, task: u8, chosen: Chosen, done: u16, st: State) -> Ticked
-    ensures { λ r. ⌜ r ≡ ticked number task (listed chosen) done st ⌝ }
-{
-    Ticked {
-        answer: answer(number, task, chosen, done),
-        state: st,
-    }
-}
-
 // A refusal: the same state, eight unused places, the empty set.
 pub(crate) fn refuse(st: State, number: u8, place: usize, task: u8) -> Ticked
     ensures { λ r. ⌜ r ≡ refuse st number place task ⌝ }
@@ -108,46 +96,6 @@ pub(crate) fn refuse(st: State, number: u8, place: usize, task: u8) -> Ticked
             finished: 0,
         },
         state: st,
-    }
-}
-
-// Step 6.
-fn judge(chosen: Chosen, done: u16, st: State) -> Ticked
-    ensures { λ r. ⌜ r ≡ judged (listed chosen) done st ⌝ }
-{
-    let i = steps::first_missed(st);
-    if i < 16 {
-        let stopped = opening::zeros(st.clock, Phase::Stopped(i));
-        return told(34, i, chosen, done, stopped);
-    }
-    told(0, 255, chosen, done, st)
-}
-
-// Steps 4, 5 and 6, of the state after step 1.
-pub fn advance_from(t: Table, st: State, named: u16, chosen: Chosen) -> Ticked
-    ensures { λ r. ⌜ r ≡ advanceTo (listed chosen) (worked t st named (listed chosen)) ⌝ }
-{
-    let after = steps::work(t, st, named, chosen);
-    let done = steps::finished_set(after);
-    let rest = steps::end_jobs(after, done);
-    judge(chosen, done, rest)
-}
-
-// Steps 1, 4, 5 and 6, with the vertices that a choice lists.
-pub fn advance(t: Table, st: State, named: u16, chosen: Chosen) -> Ticked
-    ensures { λ r. ⌜ r ≡ advance t st named (listed chosen) ⌝ }
-{
-    advance_from(t, steps::release(t, st, named), named, chosen)
-}
-
-// Step 2, once step 1 is made, and what step 3 ranks by.
-pub fn offered(t: Table, st: State, named: u16) -> Offer
-    ensures { λ r. ⌜ r ≡ offered t st named ⌝ }
-{
-    let begun = steps::release(t, st, named);
-    Offer {
-        sets: choosing::available_sets(t, begun),
-        left: choosing::ticks_left(begun),
     }
 }
 
@@ -177,87 +125,64 @@ pub fn first_beyond(named: u16, n: u8) -> u8
     16
 }
 
-// Whether task i is named though it has to wait.
-fn is_early(named: u16, s: TaskState, i: u8) -> bool
-    requires { ⌜ i < 16 ⌝ }
-    ensures { λ r. ⌜ r ≡ (bit named i && ltb 0 (waitOf (s .activity))) ⌝ }
-{
-    let a = s.activity;
-    if (named >> i) % 2 == 1 {
-        return 0 < steps::wait_of(a);
-    }
-    false
-}
-
 // 33: the lowest named task with a wait above 0, 16 if there is none.
 pub fn first_early(named: u16, n: u8, st: State) -> u8
     ensures { λ r. ⌜ r ≡ lowest 16 n (λ i. bit named i && ltb 0 (wait st i)) ⌝ }
 {
-    let used = steps::entries(n);
     let states = st.tasks;
-    for i in 0..used {
-        if is_early(named, states[i as usize], i) {
-            return i;
-        }
-    }
-    16
+    let waits = held::waits_of(states);
+    lent::first_early(named, n, &waits)
 }
 
 // 30, 32, 31 and 33, in this order; number 0 if there is none.
-fn refusal(fits: bool, phase: Phase, named: u16, n: u8, waits: &[u32; 16]) -> Reply
-    requires { ⌜ n ≤ 16 ⌝ }
-    ensures { λ r. ⌜ r ≡ refusalOf fits phase named n (now (waits .entry)) ⌝ }
+fn refusal(
+    t: Table,
+    phase: Phase,
+    costs: &[u32; 256],
+    named: u16,
+    live: u16,
+    ticks: &[u32; 16],
+    waits: &[u32; 16],
+    work: &[u64; 16],
+    remaining: &[u32; 256],
+) -> Reply
+    requires { ⌜ t .n ≤ 16 ⌝ }
+    ensures { λ r. ⌜ r ≡ refusalOf (fitsBy phase t (now (costs .entry)) live (now (ticks .entry)) (now (waits .entry)) (now (work .entry)) (now (remaining .entry))) phase named (t .n) (now (waits .entry)) ⌝ }
 {
-    if !fits {
+    if !fitting::fits_rows(t, phase, costs, live, ticks, waits, work, remaining) {
         return reply(30, 255);
     }
     let Phase::Running = phase else {
         return reply(32, 255);
     };
-    let beyond = first_beyond(named, n);
+    let beyond = first_beyond(named, t.n);
     if beyond < 16 {
         return reply(31, beyond);
     }
-    let early = lent::first_early(named, n, waits);
+    let early = lent::first_early(named, t.n, waits);
     if early < 16 {
         return reply(33, early);
     }
     reply(0, 255)
 }
 
-// The tick on a table. The state is taken apart once; its rows are lent, and changed where they lie.
-pub(crate) fn tick_on(t: Table, st: State, named: u16) -> Ticked
-    requires { ⌜ GoodTable t ⌝ }
-    ensures { λ r. ⌜ r ≡ tickOn ownChoice t st named ⌝ }
+// Steps 5 and 6, of the state after step 4 that these rows make.
+fn told(
+    clock: u32,
+    phase: Phase,
+    begun: u16,
+    chosen: Chosen,
+    deadlines: &[u32; 16],
+    waits: &[u32; 16],
+    remaining: &[u32; 256],
+    work: &[u64; 16],
+) -> Ticked
+    ensures { λ r. ⌜ r ≡ advanceTo (listed chosen) (rowsAfter clock phase begun (now (deadlines .entry)) (now (waits .entry)) (now (remaining .entry)) (now (work .entry))) ⌝ }
 {
-    let clock = st.clock;
-    let phase = st.phase;
-    let states = st.tasks;
-    let costs = t.costs;
-    let mut remaining = st.remaining;
-    let mut work = st.work;
-    let live = held::live_set(states);
-    let mut deadlines = held::deadlines_of(states);
-    let mut waits = held::waits_of(states);
-    let ticks = held::left_of(&deadlines, clock);
-    let fits = fitting::fits_rows(t, phase, &costs, live, &ticks, &waits, &work, &remaining);
-    let no = refusal(fits, phase, named, t.n, &waits);
-    if no.number != 0 {
-        return refuse(st, no.number, 0, no.task);
-    }
-    lent::begin(t, clock, named, &mut deadlines, &mut waits);
-    lent::put_costs(&costs, named, &mut remaining);
-    lent::put_work(&costs, named, &mut work);
-    let begun = live | named;
-    let left = held::left_of(&deadlines, clock);
-    let sets = choosing::sets_of(t, begun, &remaining);
-    let chosen = choosing::choose(t.m, t.n as usize, sets, &left);
-    lent::work_off(chosen, &remaining, &mut work);
-    lent::run(chosen, &mut remaining);
-    let done = lent::done_of(begun, &work);
+    let done = lent::done_of(begun, work);
     let going = begun & !done;
     let next = std::num::wrapping_add_u32(clock, 1);
-    let late = lent::first_late(going, &deadlines, next);
+    let late = lent::first_late(going, deadlines, next);
     if late < 16 {
         let stopped = opening::zeros(next, Phase::Stopped(late));
         return Ticked {
@@ -269,10 +194,102 @@ pub(crate) fn tick_on(t: Table, st: State, named: u16) -> Ticked
         answer: answer(0, 255, chosen, done),
         state: State {
             clock: next,
-            phase: Phase::Running,
-            tasks: held::together(going, &deadlines, &waits),
-            remaining: remaining,
-            work: work,
+            phase: phase,
+            tasks: held::together(going, deadlines, waits),
+            remaining: *remaining,
+            work: *work,
         },
+    }
+}
+
+// The tick on a table. The state is taken apart once; its rows are lent, and changed where they lie.
+pub(crate) fn tick_on(t: Table, st: State, named: u16) -> Ticked
+    requires { ⌜ GoodTable t ⌝ }
+    ensures { λ r. ⌜ r ≡ tickOn ownChoice t st named ⌝ }
+{
+    let clock = st.clock;
+    let phase = st.phase;
+    let states = st.tasks;
+    let costs = t.costs;
+    let mut rest = st.remaining;
+    let mut work = st.work;
+    let live = held::live_set(states);
+    let mut deadlines = held::deadlines_of(states);
+    let mut waits = held::waits_of(states);
+    let ticks = held::left_of(&deadlines, clock);
+    let no = refusal(t, phase, &costs, named, live, &ticks, &waits, &work, &rest);
+    if no.number != 0 {
+        return refuse(st, no.number, 0, no.task);
+    }
+    lent::release(
+        t,
+        clock,
+        &costs,
+        named,
+        &mut deadlines,
+        &mut waits,
+        &mut rest,
+        &mut work,
+    );
+    let live = live | named;
+    let chosen = choosing::own_choice(t, clock, live, &deadlines, &rest);
+    lent::run(chosen, &mut rest, &mut work);
+    told(clock, phase, live, chosen, &deadlines, &waits, &rest, &work)
+}
+
+// Steps 1, 4, 5 and 6, with the vertices that a choice lists; one that is listed twice runs once.
+pub fn advance(t: Table, st: State, named: u16, chosen: Chosen) -> Ticked
+    ensures { λ r. ⌜ r ≡ advance t st named (listed chosen) ⌝ }
+{
+    let clock = st.clock;
+    let phase = st.phase;
+    let states = st.tasks;
+    let costs = t.costs;
+    let mut rest = st.remaining;
+    let mut work = st.work;
+    let live = held::live_set(states);
+    let mut deadlines = held::deadlines_of(states);
+    let mut waits = held::waits_of(states);
+    lent::release(
+        t,
+        clock,
+        &costs,
+        named,
+        &mut deadlines,
+        &mut waits,
+        &mut rest,
+        &mut work,
+    );
+    let once = choosing::once(chosen);
+    lent::run(once, &mut rest, &mut work);
+    let live = live | named;
+    told(clock, phase, live, chosen, &deadlines, &waits, &rest, &work)
+}
+
+// Step 2, once step 1 is made, and what step 3 ranks by.
+pub fn offered(t: Table, st: State, named: u16) -> Offer
+    ensures { λ r. ⌜ r ≡ offered t st named ⌝ }
+{
+    let clock = st.clock;
+    let states = st.tasks;
+    let costs = t.costs;
+    let mut rest = st.remaining;
+    let mut work = st.work;
+    let live = held::live_set(states);
+    let mut deadlines = held::deadlines_of(states);
+    let mut waits = held::waits_of(states);
+    lent::release(
+        t,
+        clock,
+        &costs,
+        named,
+        &mut deadlines,
+        &mut waits,
+        &mut rest,
+        &mut work,
+    );
+    Offer {
+        sets: choosing::sets_of(t, live | named, &rest),
+        left: held::left_of(&deadlines, clock),
     }
 }

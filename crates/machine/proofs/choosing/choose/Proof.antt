@@ -1,12 +1,12 @@
 -- The loop's invariant: `count` of the ranking were picked, the sets hold the others, and those of the tasks from n on are empty.
-use mathlib.Core.Path.{_≡_, refl, sym, ap, _∙_}
+use mathlib.Core.Path.{_≡_, refl, ap, _∙_}
 use mathlib.Core.List.{List}
-use Prim.Native.Nat.{ℕ, _≤_, _<_, _-_}
-use lib.ListN.{length, getD, set}
+use Prim.Native.Nat.{ℕ, _≤_, _-_}
+use lib.ListN.{length, getD}
 use lib.Seq.{getD-set-other}
 use Rattle.graph.proofs.Facts.{row-at}
 use Rattle.machine.specs.States.{left}
-use Rattle.machine.specs.Choosing.{inSets, RanksFirst}
+use Rattle.machine.specs.Choosing.{inSets}
 use Rattle.machine.proofs.Ready.{in-available}
 use Rattle.machine.proofs.Picking.{PickedFrom, none-picked, one-picked, m-chosen, all-chosen, ranks-all}
 use borrow.Author.Needs.{needs}

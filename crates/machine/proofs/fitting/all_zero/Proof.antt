@@ -1,12 +1,12 @@
 -- The loop's invariant: the tasks that were passed are tasks of zeros.
-use mathlib.Core.Path.{_≡_, refl, sym, ap, ap₂, subst, _∙_}
-use mathlib.Core.Bool.{Bool, true, false, _&&_}
+use mathlib.Core.Path.{_≡_, refl, sym, _∙_}
+use mathlib.Core.Bool.{Bool, true}
 use mathlib.Core.List.{List}
-use Prim.Native.Nat.{ℕ, _+_, _*_, _-_, _/_, _≤_, _<_, min}
-use lib.ListN.{length, getD, take, replicate, length-take}
-use borrow.Author.Tests.{eq-eqb, ne-eqb, not-true, not-false}
-use Rattle.graph.specs.Words.{pick, bit, sum, all, row, isIn, Distinct, setOf}
-use Rattle.fitness.specs.Fitness.{zeroTask, taskFits}
+use Prim.Native.Nat.{ℕ, _-_, _≤_}
+use lib.ListN.{getD}
+use borrow.Author.Tests.{not-true, not-false}
+use Rattle.graph.specs.Words.{bit, all}
+use Rattle.fitness.specs.Fitness.{zeroTask}
 use Rattle.fitness.proofs.Behind.{all-more, all-off, all-done}
 use borrow.Author.Needs.{needs}
 use native.Mathlib.Omega.{arith}

@@ -1,11 +1,10 @@
-use mathlib.Core.Path.{_≡_, refl, sym, ap, ap₂, subst, _∙_}
+use mathlib.Core.Path.{refl}
 use mathlib.Core.List.{List}
-use Prim.Native.Nat.{ℕ, _+_, _*_, _-_, _/_, _≤_, _<_, min}
-use lib.ListN.{length, getD, take, replicate, length-take}
-use Rattle.graph.specs.Words.{pick, bit, sum, all, row, isIn, Distinct, setOf}
+use Prim.Native.Nat.{ℕ, _-_, _≤_}
+use lib.ListN.{getD}
 use Rattle.machine.specs.declared.TaskState.{TaskState}
-use Rattle.machine.specs.States.{idle, isLive, waitOf, deadlineOf, ticksLeft, wrap}
-use Rattle.machine.proofs.Filling.{same-throughout, Filled, filled-none, filled-set, filled-kept, filled-all}
+use Rattle.machine.specs.States.{idle, deadlineOf}
+use Rattle.machine.proofs.Filling.{Filled, filled-none, filled-set, filled-all}
 use borrow.Author.Needs.{needs}
 use native.Mathlib.Omega.{arith}
 use Rattle.machine.proofs.held.deadlines_of.Statement.{statement}

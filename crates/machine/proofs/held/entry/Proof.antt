@@ -1,5 +1,4 @@
-use mathlib.Core.Path.{_≡_, refl, sym, ap, ap₂, subst, _∙_}
-use borrow.Author.Needs.{needs}
+use mathlib.Core.Path.{refl}
 use Rattle.machine.proofs.held.entry.Statement.{statement}
 use Rattle.machine.proofs.held.entry.Tie as tie
 

@@ -1,12 +1,12 @@
-use mathlib.Core.Path.{_≡_, refl, sym, ap, ap₂, subst, _∙_}
+use mathlib.Core.Path.{_≡_, refl, sym, ap, ap₂, _∙_}
 use mathlib.Core.Logic.{⊎-elim}
-use mathlib.Core.Bool.{Bool, true, false, _&&_}
+use mathlib.Core.Bool.{Bool}
 use mathlib.Core.List.{List}
-use Prim.Native.Nat.{ℕ, _+_, _*_, _-_, _/_, _≤_, _<_, min}
-use lib.ListN.{length, getD, take, replicate, length-take}
-use Rattle.graph.specs.Words.{pick, bit, sum, all, row, isIn, Distinct, setOf}
+use Prim.Native.Nat.{ℕ, _+_, _-_, _≤_}
+use lib.ListN.{getD}
+use Rattle.graph.specs.Words.{sum, setOf}
 use Rattle.machine.specs.declared.TaskState.{TaskState}
-use Rattle.machine.specs.States.{idle, isLive, waitOf, deadlineOf, ticksLeft, wrap}
+use Rattle.machine.specs.States.{idle, isLive}
 use Rattle.machine.proofs.Searching.{set-with, set-without, set-room}
 use borrow.Author.Needs.{needs}
 use native.Mathlib.Omega.{arith}

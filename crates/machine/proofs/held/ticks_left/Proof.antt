@@ -1,4 +1,4 @@
-use Rattle.machine.specs.States.{idle, isLive, waitOf, deadlineOf, ticksLeft, wrap}
+use Rattle.machine.specs.States.{ticksLeft, wrap}
 use borrow.Author.Needs.{needs}
 use Rattle.machine.proofs.held.ticks_left.Statement.{statement}
 use Rattle.machine.proofs.held.ticks_left.Tie as tie

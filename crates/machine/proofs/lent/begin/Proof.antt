@@ -1,8 +1,4 @@
-use mathlib.Core.Path.{_≡_, refl, sym, ap, ap₂, subst, _∙_}
-use mathlib.Core.List.{List}
-use Prim.Native.Nat.{ℕ, _+_, _*_, _-_, _/_, _≤_, _<_, min}
-use lib.ListN.{length, getD, take, replicate, length-take}
-use Rattle.machine.proofs.Putting.{PutTo, put-none, put-one, put-all, PutNamed, named-none, named-one, named-other, named-all, none-named, no-change}
+use Rattle.machine.proofs.Putting.{no-change}
 use borrow.Author.Needs.{needs}
 use Rattle.machine.proofs.lent.begin.Statement.{statement}
 use Rattle.machine.proofs.lent.begin.Tie as tie

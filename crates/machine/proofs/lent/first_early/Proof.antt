@@ -1,11 +1,11 @@
 use Rattle.graph.proofs.Bits.{bit-past}
 use native.Mathlib.Decide.{decLt}
-use mathlib.Core.Path.{_≡_, refl, sym, ap, ap₂, subst, _∙_}
-use mathlib.Core.Bool.{Bool, true, false, _&&_}
-use Prim.Native.Nat.{ℕ, _+_, _*_, _-_, _/_, _≤_, _<_, min}
-use lib.ListN.{length, getD, take, replicate, length-take}
-use lib.Dec.{ltb, leb, eqb}
-use Rattle.graph.specs.Words.{pick, bit, sum, all, row, isIn, Distinct, setOf}
+use mathlib.Core.Path.{sym, ap, _∙_}
+use mathlib.Core.Bool.{Bool, _&&_}
+use Prim.Native.Nat.{_-_, _≤_}
+use lib.ListN.{getD}
+use lib.Dec.{ltb}
+use Rattle.graph.specs.Words.{bit}
 use borrow.Author.Count.{below-none, below-more}
 use Rattle.graph.proofs.Facts.{lowest-is, lowest-none}
 use Rattle.machine.proofs.Lowest.{None}

@@ -1,11 +1,10 @@
-use mathlib.Core.Path.{_≡_, refl, sym, ap, ap₂, subst, _∙_}
+use mathlib.Core.Path.{sym, subst, _∙_}
 use mathlib.Core.Logic.{⊎-elim}
 use mathlib.Core.List.{List}
-use Prim.Native.Nat.{ℕ, _+_, _*_, _-_, _/_, _≤_, _<_, min}
-use lib.ListN.{length, getD, take, replicate, length-take}
-use borrow.Author.Tests.{eq-eqb, ne-eqb, not-true, not-false}
-use Rattle.graph.specs.Words.{pick, bit, sum, all, row, isIn, Distinct, setOf}
-use Rattle.machine.proofs.Putting.{PutTo, put-none, put-one, put-all, PutNamed, named-none, named-one, named-other, named-all, none-named, no-change}
+use Prim.Native.Nat.{ℕ, _+_, _-_, _≤_}
+use borrow.Author.Tests.{eq-eqb, ne-eqb}
+use Rattle.graph.specs.Words.{bit}
+use Rattle.machine.proofs.Putting.{PutNamed, named-none, named-one, named-other, named-all, none-named}
 use borrow.Author.Needs.{needs}
 use native.Mathlib.Omega.{arith}
 use Rattle.machine.proofs.lent.put_costs.Statement.{statement}

@@ -1,8 +1,5 @@
-use mathlib.Core.Path.{_≡_, refl, sym, ap, ap₂, subst, _∙_}
-use mathlib.Core.List.{List}
-use Prim.Native.Nat.{ℕ, _+_, _*_, _-_, _/_, _≤_, _<_, min}
-use lib.ListN.{length, getD, take, replicate, length-take}
-use Rattle.machine.proofs.Putting.{PutTo, put-none, put-one, put-all, PutNamed, named-none, named-one, named-other, named-all, none-named, no-change}
+use Prim.Native.Nat.{_-_, _≤_}
+use Rattle.machine.proofs.Putting.{PutTo, put-none, put-one, put-all}
 use borrow.Author.Needs.{needs}
 use native.Mathlib.Omega.{arith}
 use Rattle.machine.proofs.lent.put_task.Statement.{statement}

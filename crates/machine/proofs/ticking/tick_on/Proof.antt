@@ -1,65 +1,63 @@
--- What each call told of the rows, one after the other; then the tick is put together (proofs/Apart.antt).
-use mathlib.Core.Path.{_≡_, refl, sym, ap, ap₂, subst, _∙_}
-use mathlib.Core.Bool.{Bool}
+-- What each call told of the rows, one after the other; then the tick is put together (proofs/Apart.antt, proofs/Together.antt).
+use mathlib.Core.Path.{_≡_, sym, ap, subst, _∙_}
 use mathlib.Core.List.{List}
-use Prim.Native.Nat.{ℕ, _-_}
-use lib.ListN.{length, getD, take}
-use Rattle.graph.specs.Words.{pick, row, isIn, Distinct}
-use Rattle.graph.proofs.Facts.{length-row}
-use Rattle.machine.specs.declared.Phase.the-variants.{Running}
-use Rattle.machine.specs.declared.State.{State}
-use Rattle.machine.specs.declared.Answer.{Answer}
-use Rattle.machine.specs.States.{live, wrap}
-use Rattle.machine.specs.Steps.{released, availableSets, ownChoice, worked}
-use Rattle.machine.specs.Fitting.{fits}
-use Rattle.machine.specs.Choosing.{refusalOf}
-use Rattle.machine.specs.Ticking.{ticked}
-use Rattle.machine.proofs.Cases.{Admitted}
-use Rattle.machine.proofs.Own.{own-legal}
-use Rattle.machine.proofs.Apart.{Apart, apart, fits-by, Told, refused, mid-work, off-work, begun-at, mid-left, spare-none, after-is, tick-misses, tick-goes}
+use Prim.Native.Nat.{ℕ}
+use lib.ListN.{length, take}
 use borrow.Author.Needs.{needs}
+use Rattle.graph.specs.Words.{Distinct}
+use Rattle.graph.proofs.Facts.{length-row}
+use Rattle.machine.specs.Steps.{released, ownChoice}
+use Rattle.machine.specs.Choosing.{fitsBy, refusalOf}
+use Rattle.machine.specs.Ticking.{advanceTo, advance}
+use Rattle.machine.proofs.Index.{released-clock}
+use Rattle.machine.proofs.Cases.{Admitted, admitted-advances}
+use Rattle.machine.proofs.Own.{own-legal}
+use Rattle.machine.proofs.Apart.{Apart, apart, Told, refused}
+use Rattle.machine.proofs.Together.{Begun, begun-at, deadline-at, mid-costs, spare-off, rows-worked}
 use Rattle.machine.proofs.ticking.tick_on.Statement.{statement}
 use Rattle.machine.proofs.ticking.tick_on.Tie as tie
 
+-- the rows are the state's
+its-rows : (c : tie.After-waits-of) → Apart (c .before .before .before .before .before .before .before .args .st) (c .before .before .live-set .result) (c .before .deadlines-of .result) (c .waits-of .result)
+its-rows c = apart (c .before .before .before .before .before .before .before .args .st) _ _ _ (c .before .before .live-set .ensures) (c .before .deadlines-of .ensures) (c .waits-of .ensures)
+
+-- what refuses the tick
+its-refusal : (c : tie.After-refusal) → (let w = c .before .before .before .before .before .before .before .before in let s = c .before .before .before .before .before .before .before .before .before .before .before .before .before .before .before in Told (s .args .t) (s .pre) (s .args .st) (w .before .before .live-set .result) (w .before .deadlines-of .result) (w .waits-of .result) (its-rows w) ownChoice (s .args .named) (c .refusal .result))
+its-refusal c =
+    let w = c .before .before .before .before .before .before .before .before in
+    let s = c .before .before .before .before .before .before .before .before .before .before .before .before .before .before .before in
+    refused (s .args .t) (s .pre) (s .args .st) _ _ _ (its-rows w) ownChoice (s .args .named) (c .refusal .result)
+    (c .refusal .ensures ∙ ap (λ (k : List ℕ). refusalOf (fitsBy (s .args .st .phase) (s .args .t) (s .args .t .costs) (w .before .before .live-set .result) k (w .waits-of .result) (s .args .st .work) (s .args .st .remaining)) (s .args .st .phase) (s .args .named) (s .args .t .n) (w .waits-of .result)) (c .before .before .before .before .before .before .left-of .ensures))
+
+admitted : (c : tie.Else1) → (let a = c .before .before .before .before .before .before .before .before .before .before .before .before .before .before .before .before .before .args in Admitted ownChoice (a .t) (a .st) (a .named))
+admitted c = its-refusal (c .before .before) .0 (c .if1 .left)
+
+-- step 1
 its-size : (c : tie.Start) → length (c .args .st .remaining) ≡ 256
 its-size c = search needs
 
 its-work-size : (c : tie.Start) → length (c .args .st .work) ≡ 16
 its-work-size c = search needs
 
--- what is known as the code goes on: the rows are the state's
-its-rows : (c : tie.After-fits-rows) → Apart (c .before .before .before .before .before .before .before .before .before .before .before .before .before .before .before .args .st) (c .before .before .before .before .before .before .before .before .before .before .live-set .result) (c .before .before .before .before .before .before .before .before .before .deadlines-of .result) (c .before .before .before .before .before .before .before .before .waits-of .result)
-its-rows c = apart (c .before .before .before .before .before .before .before .before .before .before .before .before .before .before .before .args .st) (c .before .before .before .before .before .before .before .before .before .before .live-set .result) (c .before .before .before .before .before .before .before .before .before .deadlines-of .result) (c .before .before .before .before .before .before .before .before .waits-of .result) (c .before .before .before .before .before .before .before .before .before .before .live-set .ensures) (c .before .before .before .before .before .before .before .before .before .deadlines-of .ensures) (c .before .before .before .before .before .before .before .before .waits-of .ensures)
+abbrev rows-at : tie.After-release → tie.After-waits-of
+rows-at c = c .before .before .before .before .before .before .before .before .before .before .before .before .before .before .before .before
 
-its-fits : (c : tie.After-fits-rows) → c .fits-rows .result ≡ fits (c .before .before .before .before .before .before .before .before .before .before .before .before .before .before .before .args .t) (c .before .before .before .before .before .before .before .before .before .before .before .before .before .before .before .args .st)
-its-fits c = c .fits-rows .ensures ∙ fits-by (c .before .before .before .before .before .before .before .before .before .before .before .before .before .before .before .args .t) (c .before .before .before .before .before .before .before .before .before .before .before .before .before .before .before .pre) (c .before .before .before .before .before .before .before .before .before .before .before .before .before .before .before .args .st) (c .before .before .before .before .before .before .before .before .before .before .live-set .result) (c .before .before .before .before .before .before .before .before .before .deadlines-of .result) (c .before .before .before .before .before .before .before .before .waits-of .result) (its-rows c) (c .before .before .before .before .before .before .left-of .result) (c .before .before .before .before .before .before .left-of .ensures)
+abbrev start-of : tie.After-release → tie.Start
+start-of c = c .before .before .before .before .before .before .before .before .before .before .before .before .before .before .before .before .before .before .before .before .before .before .before
 
-its-refusal : (c : tie.After-refusal) → Told (c .before .before .before .before .before .before .before .before .before .before .before .before .before .before .before .before .before .args .t) (c .before .before .before .before .before .before .before .before .before .before .before .before .before .before .before .before .before .pre) (c .before .before .before .before .before .before .before .before .before .before .before .before .before .before .before .before .before .args .st) (c .before .before .before .before .before .before .before .before .before .before .before .before .live-set .result) (c .before .before .before .before .before .before .before .before .before .before .before .deadlines-of .result) (c .before .before .before .before .before .before .before .before .before .before .waits-of .result) (its-rows (c .before .before)) ownChoice (c .before .before .before .before .before .before .before .before .before .before .before .before .before .before .before .before .before .args .named) (c .refusal .result)
-its-refusal c = refused (c .before .before .before .before .before .before .before .before .before .before .before .before .before .before .before .before .before .args .t) (c .before .before .before .before .before .before .before .before .before .before .before .before .before .before .before .before .before .pre) (c .before .before .before .before .before .before .before .before .before .before .before .before .before .before .before .before .before .args .st) (c .before .before .before .before .before .before .before .before .before .before .before .before .live-set .result) (c .before .before .before .before .before .before .before .before .before .before .before .deadlines-of .result) (c .before .before .before .before .before .before .before .before .before .before .waits-of .result) (its-rows (c .before .before)) ownChoice (c .before .before .before .before .before .before .before .before .before .before .before .before .before .before .before .before .before .args .named) (c .refusal .result) (c .refusal .ensures ∙ ap (λ (f : Bool). refusalOf f ((c .before .before .before .before .before .before .before .before .before .before .before .before .before .before .before .before .before .args .st) .phase) (c .before .before .before .before .before .before .before .before .before .before .before .before .before .before .before .before .before .args .named) ((c .before .before .before .before .before .before .before .before .before .before .before .before .before .before .before .before .before .args .t) .n) (c .before .before .before .before .before .before .before .before .before .before .waits-of .result)) (its-fits (c .before .before)))
+begun : (c : tie.After-release) → Begun (start-of c .args .t) (start-of c .args .st) (start-of c .args .named) (rows-at c .before .deadlines-of .result) (rows-at c .waits-of .result) (c .release .last .1 .1 .1 .1 .0) (c .release .last .1 .1 .1 .1 .1 .0) (c .release .last .1 .1 .1 .1 .1 .1 .0) (c .release .last .1 .1 .1 .1 .1 .1 .1 .0)
+begun c = record { ends = c .release .ensures .0; rests = c .release .ensures .1; costs = c .release .ensures .2; sums = c .release .ensures .3 }
 
-admitted : (c : tie.Else1) → Admitted ownChoice (c .before .before .before .before .before .before .before .before .before .before .before .before .before .before .before .before .before .before .before .args .t) (c .before .before .before .before .before .before .before .before .before .before .before .before .before .before .before .before .before .before .before .args .st) (c .before .before .before .before .before .before .before .before .before .before .before .before .before .before .before .before .before .before .before .args .named)
-admitted c = its-refusal (c .before .before) .0 (c .if1 .left)
-
--- what remains after step 1
-its-costs : (c : tie.After-put-costs) → (released (c .before .before .before .before .before .before .before .before .before .before .before .before .before .before .before .before .before .before .before .before .before .before .before .before .before .args .t) (c .before .before .before .before .before .before .before .before .before .before .before .before .before .before .before .before .before .before .before .before .before .before .before .before .before .args .st) (c .before .before .before .before .before .before .before .before .before .before .before .before .before .before .before .before .before .before .before .before .before .before .before .before .before .args .named)) .remaining ≡ c .put-costs .last .1 .1 .0
-unfolding released
-its-costs c = sym (c .put-costs .ensures)
-
-its-sets : (c : tie.After-sets-of) → c .sets-of .result ≡ availableSets (c .before .before .before .before .before .before .before .before .before .before .before .before .before .before .before .before .before .before .before .before .before .before .before .before .before .before .before .before .before .before .before .before .args .t) (released (c .before .before .before .before .before .before .before .before .before .before .before .before .before .before .before .before .before .before .before .before .before .before .before .before .before .before .before .before .before .before .before .before .args .t) (c .before .before .before .before .before .before .before .before .before .before .before .before .before .before .before .before .before .before .before .before .before .before .before .before .before .before .before .before .before .before .before .before .args .st) (c .before .before .before .before .before .before .before .before .before .before .before .before .before .before .before .before .before .before .before .before .before .before .before .before .before .before .before .before .before .before .before .before .args .named))
-unfolding live
-its-sets c = c .sets-of .ensures (released (c .before .before .before .before .before .before .before .before .before .before .before .before .before .before .before .before .before .before .before .before .before .before .before .before .before .before .before .before .before .before .before .before .args .t) (c .before .before .before .before .before .before .before .before .before .before .before .before .before .before .before .before .before .before .before .before .before .before .before .before .before .before .before .before .before .before .before .before .args .st) (c .before .before .before .before .before .before .before .before .before .before .before .before .before .before .before .before .before .before .before .before .before .before .before .before .before .before .before .before .before .before .before .before .args .named)) (its-costs (c .before .before .before .before .before .before .before)) (λ i h. begun-at (c .before .before .before .before .before .before .before .before .before .before .before .before .before .before .before .before .before .before .before .before .before .before .before .before .before .before .before .before .before .before .before .before .args .t) (c .before .before .before .before .before .before .before .before .before .before .before .before .before .before .before .before .before .before .before .before .before .before .before .before .before .before .before .before .before .before .before .before .pre) (c .before .before .before .before .before .before .before .before .before .before .before .before .before .before .before .before .before .before .before .before .before .before .before .before .before .before .before .before .before .before .before .before .args .st) (c .before .before .before .before .before .before .before .before .before .before .before .before .before .before .before .before .before .before .before .before .before .before .before .before .before .before .before .live-set .result) (c .before .before .before .before .before .before .before .before .before .before .before .before .before .before .before .before .before .before .before .before .before .before .before .before .before .before .deadlines-of .result) (c .before .before .before .before .before .before .before .before .before .before .before .before .before .before .before .before .before .before .before .before .before .before .before .before .before .waits-of .result) (its-rows (c .before .before .before .before .before .before .before .before .before .before .before .before .before .before .before .before .before)) (c .before .before .before .before .before .before .before .before .before .before .before .before .before .before .before .before .before .before .before .before .before .before .before .before .before .before .before .before .before .before .before .before .args .named) (c .before .before .before .before .before .before .before .before .before .before .begin .last .1 .1 .1 .0) (c .before .before .before .before .before .before .before .before .before .before .begin .last .1 .1 .1 .1 .0) (c .before .before .before .before .before .before .before .before .before .before .begin .ensures .0) (c .before .before .before .before .before .before .before .before .before .before .begin .ensures .1) i h)
-
-its-choice : (c : tie.After-choose) → (take (c .choose .result .count) (c .choose .result .keys)) ≡ ownChoice (c .before .before .before .before .before .before .before .before .before .before .before .before .before .before .before .before .before .before .before .before .before .before .before .before .before .before .before .before .before .before .before .before .before .before .before .args .t) (released (c .before .before .before .before .before .before .before .before .before .before .before .before .before .before .before .before .before .before .before .before .before .before .before .before .before .before .before .before .before .before .before .before .before .before .before .args .t) (c .before .before .before .before .before .before .before .before .before .before .before .before .before .before .before .before .before .before .before .before .before .before .before .before .before .before .before .before .before .before .before .before .before .before .before .args .st) (c .before .before .before .before .before .before .before .before .before .before .before .before .before .before .before .before .before .before .before .before .before .before .before .before .before .before .before .before .before .before .before .before .before .before .before .args .named))
-its-choice c = c .choose .ensures .0 (c .before .before .before .before .before .before .before .before .before .before .before .before .before .before .before .before .before .before .before .before .before .before .before .before .before .before .before .before .before .before .before .before .before .before .before .args .t) (released (c .before .before .before .before .before .before .before .before .before .before .before .before .before .before .before .before .before .before .before .before .before .before .before .before .before .before .before .before .before .before .before .before .before .before .before .args .t) (c .before .before .before .before .before .before .before .before .before .before .before .before .before .before .before .before .before .before .before .before .before .before .before .before .before .before .before .before .before .before .before .before .before .before .before .args .st) (c .before .before .before .before .before .before .before .before .before .before .before .before .before .before .before .before .before .before .before .before .before .before .before .before .before .before .before .before .before .before .before .before .before .before .before .args .named)) refl (its-sets (c .before .before .before)) (c .before .before .before .before .before .left-of2 .ensures ∙ mid-left (c .before .before .before .before .before .before .before .before .before .before .before .before .before .before .before .before .before .before .before .before .before .before .before .before .before .before .before .before .before .before .before .before .before .before .before .args .t) (c .before .before .before .before .before .before .before .before .before .before .before .before .before .before .before .before .before .before .before .before .before .before .before .before .before .before .before .before .before .before .before .before .before .before .before .pre) (c .before .before .before .before .before .before .before .before .before .before .before .before .before .before .before .before .before .before .before .before .before .before .before .before .before .before .before .before .before .before .before .before .before .before .before .args .st) (c .before .before .before .before .before .before .before .before .before .before .before .before .before .before .before .before .before .before .before .before .before .before .before .before .before .before .before .before .before .before .live-set .result) (c .before .before .before .before .before .before .before .before .before .before .before .before .before .before .before .before .before .before .before .before .before .before .before .before .before .before .before .before .before .deadlines-of .result) (c .before .before .before .before .before .before .before .before .before .before .before .before .before .before .before .before .before .before .before .before .before .before .before .before .before .before .before .before .waits-of .result) (its-rows (c .before .before .before .before .before .before .before .before .before .before .before .before .before .before .before .before .before .before .before .before)) (c .before .before .before .before .before .before .before .before .before .before .before .before .before .before .before .before .before .before .before .before .before .before .before .before .before .before .before .before .before .before .before .before .before .before .before .args .named) (c .before .before .before .before .before .before .before .before .before .before .before .before .before .begin .last .1 .1 .1 .0) (c .before .before .before .before .before .before .before .before .before .before .before .before .before .begin .last .1 .1 .1 .1 .0) (c .before .before .before .before .before .before .before .before .before .before .before .before .before .begin .ensures .0) (c .before .before .before .before .before .before .before .before .before .before .before .before .before .begin .ensures .1))
-
--- the work after step 4
-it-off : (c : tie.After-work-off) → c .work-off .last .1 .1 .0 ≡ worked (c .before .before .before .before .before .before .before .before .before .before .before .before .before .before .before .before .before .before .before .before .before .before .before .before .before .before .before .before .before .before .before .before .before .before .before .before .before .before .args .t) (released (c .before .before .before .before .before .before .before .before .before .before .before .before .before .before .before .before .before .before .before .before .before .before .before .before .before .before .before .before .before .before .before .before .before .before .before .before .before .before .args .t) (c .before .before .before .before .before .before .before .before .before .before .before .before .before .before .before .before .before .before .before .before .before .before .before .before .before .before .before .before .before .before .before .before .before .before .before .before .before .before .args .st) (c .before .before .before .before .before .before .before .before .before .before .before .before .before .before .before .before .before .before .before .before .before .before .before .before .before .before .before .before .before .before .before .before .before .before .before .before .before .before .args .named)) (c .before .before .before .before .before .before .before .before .before .before .before .before .before .before .before .before .before .before .before .before .before .before .before .before .before .before .before .before .before .before .before .before .before .before .before .before .before .before .args .named) (take (c .before .before .before .choose .result .count) (c .before .before .before .choose .result .keys)) .work
-it-off c = off-work (c .before .before .before .before .before .before .before .before .before .before .before .before .before .before .before .before .before .before .before .before .before .before .before .before .before .before .before .before .before .before .before .before .before .before .before .before .before .before .args .t) (c .before .before .before .before .before .before .before .before .before .before .before .before .before .before .before .before .before .before .before .before .before .before .before .before .before .before .before .before .before .before .before .before .before .before .before .before .before .before .args .st) (c .before .before .before .before .before .before .before .before .before .before .before .before .before .before .before .before .before .before .before .before .before .before .before .before .before .before .before .before .before .before .before .before .before .before .before .before .before .before .args .named) (take (c .before .before .before .choose .result .count) (c .before .before .before .choose .result .keys)) (c .before .before .before .before .before .before .before .before .before .before .put-work .last .1 .1 .0) (c .work-off .last .1 .1 .0) (c .before .before .before .before .before .before .before .before .before .before .before .before .before .put-costs .last .1 .1 .0) (mid-work (c .before .before .before .before .before .before .before .before .before .before .before .before .before .before .before .before .before .before .before .before .before .before .before .before .before .before .before .before .before .before .before .before .before .before .before .before .before .before .args .t) (c .before .before .before .before .before .before .before .before .before .before .before .before .before .before .before .before .before .before .before .before .before .before .before .before .before .before .before .before .before .before .before .before .before .before .before .before .before .before .args .st) (c .before .before .before .before .before .before .before .before .before .before .before .before .before .before .before .before .before .before .before .before .before .before .before .before .before .before .before .before .before .before .before .before .before .before .before .before .before .before .args .named) (c .before .before .before .before .before .before .before .before .before .before .put-work .last .1 .1 .0) (c .before .before .before .before .before .before .before .before .before .before .put-work .ensures)) (sym (its-costs (c .before .before .before .before .before .before .before .before .before .before .before .before .before))) (c .work-off .ensures)
-
--- what remains after step 4
-it-ran : (c : tie.After-run) → c .run .last .1 .0 ≡ worked (c .before .before .before .before .before .before .before .before .before .before .before .before .before .before .before .before .before .before .before .before .before .before .before .before .before .before .before .before .before .before .before .before .before .before .before .before .before .before .before .before .args .t) (released (c .before .before .before .before .before .before .before .before .before .before .before .before .before .before .before .before .before .before .before .before .before .before .before .before .before .before .before .before .before .before .before .before .before .before .before .before .before .before .before .before .args .t) (c .before .before .before .before .before .before .before .before .before .before .before .before .before .before .before .before .before .before .before .before .before .before .before .before .before .before .before .before .before .before .before .before .before .before .before .before .before .before .before .before .args .st) (c .before .before .before .before .before .before .before .before .before .before .before .before .before .before .before .before .before .before .before .before .before .before .before .before .before .before .before .before .before .before .before .before .before .before .before .before .before .before .before .before .args .named)) (c .before .before .before .before .before .before .before .before .before .before .before .before .before .before .before .before .before .before .before .before .before .before .before .before .before .before .before .before .before .before .before .before .before .before .before .before .before .before .before .before .args .named) (take (c .before .before .before .before .before .choose .result .count) (c .before .before .before .before .before .choose .result .keys)) .remaining
-unfolding worked
-it-ran c = c .run .ensures ∙ ap (λ (r : List ℕ). row 256 (λ k. pick (isIn k (take (c .before .before .before .before .before .choose .result .count) (c .before .before .before .before .before .choose .result .keys))) (getD r k 0 - 1) (getD r k 0))) (sym (its-costs (c .before .before .before .before .before .before .before .before .before .before .before .before .before .before .before)))
+-- steps 2 and 3
+its-choice : (c : tie.After-own-choice) → (let a = c .before .before .before .before .before .before .before .before .before .before .before .before .before .before .before .before .before .before .before .before .before .before .before .before .before .before .args in take (c .own-choice .result .count) (c .own-choice .result .keys) ≡ ownChoice (a .t) (released (a .t) (a .st) (a .named)))
+its-choice c =
+    let r = c .before .before .before in
+    let a = start-of r .args in
+    let rows = its-rows (rows-at r) in
+    c .own-choice .ensures (released (a .t) (a .st) (a .named)) (released-clock (a .t) (a .st) (a .named))
+    (mid-costs (a .t) (a .st) (a .named) _ _ _ _ _ _ _ rows (begun r))
+    (begun-at (a .t) (a .st) (a .named) _ _ _ _ _ _ _ rows (begun r))
+    (deadline-at (a .t) (a .st) (a .named) _ _ _ _ _ _ _ rows (begun r))
 
 live-set-requires : tie.Need-live-set-requires
 live-set-requires c κs = search needs
@@ -73,9 +71,6 @@ waits-of-requires c κs = search needs
 left-of-requires : tie.Need-left-of-requires
 left-of-requires c κs = search needs
 
-fits-rows-requires : tie.Need-fits-rows-requires
-fits-rows-requires c κs = search needs
-
 refusal-requires : tie.Need-refusal-requires
 refusal-requires c κs = search needs
 
@@ -85,74 +80,40 @@ refuse-requires c κs = search needs
 returns : tie.Need-returns
 returns c = c .refuse .ensures ∙ its-refusal (c .before .before .before) .1 (c .before .if1 .taken)
 
-begin-requires : tie.Need-begin-requires
-begin-requires c κs = search needs
+release-requires : tie.Need-release-requires
+release-requires c κs =
+    let s = c .before .before .before .before .before .before .before .before .before .before .before .before .before .before .before .before .before .before .before .before .before .before in
+    (ap length (c .before .before .before .before .before .before .before .before .before .before .before .before .before .before .before .before .deadlines-of .ensures) ∙ length-row 16 _, ap length (c .before .before .before .before .before .before .before .before .before .before .before .before .before .before .before .waits-of .ensures) ∙ length-row 16 _, its-size s, its-work-size s)
 
-put-costs-requires : tie.Need-put-costs-requires
-put-costs-requires c κs = its-size (c .before .before .before .before .before .before .before .before .before .before .before .before .before .before .before .before .before .before .before .before .before .before .before .before)
-
-put-work-requires : tie.Need-put-work-requires
-put-work-requires c κs = its-work-size (c .before .before .before .before .before .before .before .before .before .before .before .before .before .before .before .before .before .before .before .before .before .before .before .before .before .before .before)
-
-left-of-requires-2 : tie.Need-left-of-requires-2
-left-of-requires-2 c κs = search needs
-
-sets-of-requires : tie.Need-sets-of-requires
-sets-of-requires c κs = search needs
-
-cast-choose : tie.Need-cast-choose
-cast-choose c = search needs
-
-choose-requires : tie.Need-choose-requires
-choose-requires c κs = (c .before .before .before .before .before .before .before .before .before .before .before .before .before .before .before .before .before .before .before .before .before .before .before .before .before .before .before .before .before .before .before .before .before .before .pre .m-high, c .before .before .before .before .before .before .before .before .before .before .before .before .before .before .before .before .before .before .before .before .before .before .before .before .before .before .before .before .before .before .before .before .before .before .pre .n-high, spare-none (c .before .before .before .before .before .before .before .before .before .before .before .before .before .before .before .before .before .before .before .before .before .before .before .before .before .before .before .before .before .before .before .before .before .before .args .t) (c .before .before .before .before .before .before .before .before .before .before .before .before .before .before .before .before .before .before .before .before .before .before .before .before .before .before .before .before .before .before .before .before .before .before .pre) (c .before .before .before .before .before .before .before .before .before .before .before .before .before .before .before .before .before .before .before .before .before .before .before .before .before .before .before .before .before .before .before .before .before .before .args .st) (c .before .before .before .before .before .before .before .before .before .before .before .before .before .before .before .before .before .before .before .before .before .before .before .before .before .before .before .before .before .live-set .result) (c .before .before .before .before .before .before .before .before .before .before .before .before .before .before .before .before .before .before .before .before .before .before .before .before .before .before .before .before .deadlines-of .result) (c .before .before .before .before .before .before .before .before .before .before .before .before .before .before .before .before .before .before .before .before .before .before .before .before .before .before .before .waits-of .result) (its-rows (c .before .before .before .before .before .before .before .before .before .before .before .before .before .before .before .before .before .before .before)) (c .before .before .before .before .before .before .before .before .before .before .before .before .before .before .before .before .before .before .before .before .before .before .before .before .before .before .before .before .before .before .before .before .before .before .args .named) (c .before .before .before .before .before .before .before .before .before .before .before .before .begin .last .1 .1 .1 .0) (c .before .before .before .before .before .before .before .before .before .before .before .before .begin .last .1 .1 .1 .1 .0) (c .before .before .before .before .before .before .before .before .before .before .before .before .begin .ensures .0) (c .before .before .before .before .before .before .before .before .before .before .before .before .begin .ensures .1) ownChoice (admitted (c .before .before .before .before .before .before .before .before .before .before .before .before .before .before .before)) _ (its-sets (c .before .before)))
-
-work-off-requires : tie.Need-work-off-requires
-work-off-requires c κs = (
-  subst Distinct (sym (its-choice (c .before .before))) (own-legal _ _ .distinct),
-  ap length (c .before .before .before .before .before .before .before .before .before .before .before .before .put-costs .ensures) ∙ length-row 256 _,
-  ap length (c .before .before .before .before .before .before .before .before .before .put-work .ensures) ∙ length-row 16 _,
-)
+own-choice-requires : tie.Need-own-choice-requires
+own-choice-requires c κs =
+    let r = c .before .before in
+    let s = start-of r in
+    let a = s .args in
+    (s .pre .m-high, s .pre .n-high, spare-off (a .t) (a .st) (a .named) _ _ _ _ _ _ _ (its-rows (rows-at r)) (begun r) ownChoice (admitted (c .before .before .before .before .before .before .before .before)))
 
 run-requires : tie.Need-run-requires
 run-requires c κs = (
-  subst Distinct (sym (its-choice (c .before .before .before .before))) (own-legal _ _ .distinct),
-  ap length (c .before .before .before .before .before .before .before .before .before .before .before .before .before .before .put-costs .ensures) ∙ length-row 256 _,
+  subst Distinct (sym (its-choice (c .before .before))) (own-legal _ _ .distinct),
+  ap length (c .before .before .before .before .before .release .ensures .2) ∙ length-row 256 _,
+  ap length (c .before .before .before .before .before .release .ensures .3) ∙ length-row 16 _,
 )
 
-done-of-requires : tie.Need-done-of-requires
-done-of-requires c κs = search needs
-
-wrapping-add-u32-requires : tie.Need-wrapping-add-u32-requires
-wrapping-add-u32-requires c κs = search needs
-
-first-late-requires : tie.Need-first-late-requires
-first-late-requires c κs = search needs
-
-zeros-requires : tie.Need-zeros-requires
-zeros-requires c κs = search needs
-
-answer-requires : tie.Need-answer-requires
-answer-requires c κs = search needs
+told-requires : tie.Need-told-requires
+told-requires c κs = search needs
 
 returns-2 : tie.Need-returns-2
-unfolding ticked wrap
+unfolding advance
 returns-2 c =
-    tick-misses (c .before .before .before .before .before .before .before .before .before .before .before .before .before .before .before .before .before .before .before .before .before .before .before .before .before .before .before .before .before .before .before .before .before .before .before .before .before .before .before .before .before .before .before .before .before .before .before .before .args .t) (c .before .before .before .before .before .before .before .before .before .before .before .before .before .before .before .before .before .before .before .before .before .before .before .before .before .before .before .before .before .before .before .before .before .before .before .before .before .before .before .before .before .before .before .before .before .before .before .before .pre) (c .before .before .before .before .before .before .before .before .before .before .before .before .before .before .before .before .before .before .before .before .before .before .before .before .before .before .before .before .before .before .before .before .before .before .before .before .before .before .before .before .before .before .before .before .before .before .before .before .args .st) (c .before .before .before .before .before .before .before .before .before .before .before .before .before .before .before .before .before .before .before .before .before .before .before .before .before .before .before .before .before .before .before .before .before .before .before .before .before .before .before .before .before .before .before .live-set .result) (c .before .before .before .before .before .before .before .before .before .before .before .before .before .before .before .before .before .before .before .before .before .before .before .before .before .before .before .before .before .before .before .before .before .before .before .before .before .before .before .before .before .before .deadlines-of .result) (c .before .before .before .before .before .before .before .before .before .before .before .before .before .before .before .before .before .before .before .before .before .before .before .before .before .before .before .before .before .before .before .before .before .before .before .before .before .before .before .before .before .waits-of .result) (its-rows (c .before .before .before .before .before .before .before .before .before .before .before .before .before .before .before .before .before .before .before .before .before .before .before .before .before .before .before .before .before .before .before .before .before)) (c .before .before .before .before .before .before .before .before .before .before .before .before .before .before .before .before .before .before .before .before .before .before .before .before .before .before .before .before .before .before .before .before .before .before .before .before .before .before .before .before .before .before .before .before .before .before .before .before .args .named) (c .before .before .before .before .before .before .before .before .before .before .before .before .before .before .before .before .before .before .before .before .before .before .before .before .before .before .begin .last .1 .1 .1 .0) (c .before .before .before .before .before .before .before .before .before .before .before .before .before .before .before .before .before .before .before .before .before .before .before .before .before .before .begin .last .1 .1 .1 .1 .0) (c .before .before .before .before .before .before .before .before .before .before .before .before .before .before .before .before .before .before .before .before .before .before .before .before .before .before .begin .ensures .0) (c .before .before .before .before .before .before .before .before .before .before .before .before .before .before .before .before .before .before .before .before .before .before .before .before .before .before .begin .ensures .1) (take (c .before .before .before .before .before .before .before .before .before .before .before .before .before .choose .result .count) (c .before .before .before .before .before .before .before .before .before .before .before .before .before .choose .result .keys)) (c .before .before .before .before .before .before .before .before .run .last .1 .0) (c .before .before .before .before .before .before .before .before .before .before .work-off .last .1 .1 .0) (it-ran (c .before .before .before .before .before .before .before .before)) (it-off (c .before .before .before .before .before .before .before .before .before .before)) (c .before .before .before .before .before .before .done-of .result) (c .before .before .before .before .before .before .done-of .ensures) (admitted (c .before .before .before .before .before .before .before .before .before .before .before .before .before .before .before .before .before .before .before .before .before .before .before .before .before .before .before .before .before)) (its-choice (c .before .before .before .before .before .before .before .before .before .before .before .before .before)) (c .before .before .before .first-late .result) (c .before .before .before .before .before .wrapping-add-u32 .result) (c .before .before .before .before .before .wrapping-add-u32 .ensures) (c .before .before .before .first-late .ensures) (c .before .before .if2 .taken)
-    _ (ap₂ (λ (x : Answer) (s : State). record { answer = x; state = s }) (c .answer .ensures) (c .before .zeros .ensures))
-
-answer-requires-2 : tie.Need-answer-requires-2
-answer-requires-2 c κs = search needs
-
-together-requires : tie.Need-together-requires
-together-requires c κs = search needs
-
-returns-3 : tie.Need-returns-3
-unfolding ticked wrap
-returns-3 c =
-    let tail : State = record { clock = (c .before .before .before .before .before .before .before .wrapping-add-u32 .result); phase = Running; tasks = c .together .result; remaining = (c .before .before .before .before .before .before .before .before .before .before .run .last .1 .0); work = (c .before .before .before .before .before .before .before .before .before .before .before .before .work-off .last .1 .1 .0) } in
-    tick-goes (c .before .before .before .before .before .before .before .before .before .before .before .before .before .before .before .before .before .before .before .before .before .before .before .before .before .before .before .before .before .before .before .before .before .before .before .before .before .before .before .before .before .before .before .before .before .before .before .before .before .before .args .t) (c .before .before .before .before .before .before .before .before .before .before .before .before .before .before .before .before .before .before .before .before .before .before .before .before .before .before .before .before .before .before .before .before .before .before .before .before .before .before .before .before .before .before .before .before .before .before .before .before .before .before .pre) (c .before .before .before .before .before .before .before .before .before .before .before .before .before .before .before .before .before .before .before .before .before .before .before .before .before .before .before .before .before .before .before .before .before .before .before .before .before .before .before .before .before .before .before .before .before .before .before .before .before .before .args .st) (c .before .before .before .before .before .before .before .before .before .before .before .before .before .before .before .before .before .before .before .before .before .before .before .before .before .before .before .before .before .before .before .before .before .before .before .before .before .before .before .before .before .before .before .before .before .live-set .result) (c .before .before .before .before .before .before .before .before .before .before .before .before .before .before .before .before .before .before .before .before .before .before .before .before .before .before .before .before .before .before .before .before .before .before .before .before .before .before .before .before .before .before .before .before .deadlines-of .result) (c .before .before .before .before .before .before .before .before .before .before .before .before .before .before .before .before .before .before .before .before .before .before .before .before .before .before .before .before .before .before .before .before .before .before .before .before .before .before .before .before .before .before .before .waits-of .result) (its-rows (c .before .before .before .before .before .before .before .before .before .before .before .before .before .before .before .before .before .before .before .before .before .before .before .before .before .before .before .before .before .before .before .before .before .before .before)) (c .before .before .before .before .before .before .before .before .before .before .before .before .before .before .before .before .before .before .before .before .before .before .before .before .before .before .before .before .before .before .before .before .before .before .before .before .before .before .before .before .before .before .before .before .before .before .before .before .before .before .args .named) (c .before .before .before .before .before .before .before .before .before .before .before .before .before .before .before .before .before .before .before .before .before .before .before .before .before .before .before .before .begin .last .1 .1 .1 .0) (c .before .before .before .before .before .before .before .before .before .before .before .before .before .before .before .before .before .before .before .before .before .before .before .before .before .before .before .before .begin .last .1 .1 .1 .1 .0) (c .before .before .before .before .before .before .before .before .before .before .before .before .before .before .before .before .before .before .before .before .before .before .before .before .before .before .before .before .begin .ensures .0) (c .before .before .before .before .before .before .before .before .before .before .before .before .before .before .before .before .before .before .before .before .before .before .before .before .before .before .before .before .begin .ensures .1) (take (c .before .before .before .before .before .before .before .before .before .before .before .before .before .before .before .choose .result .count) (c .before .before .before .before .before .before .before .before .before .before .before .before .before .before .before .choose .result .keys)) (c .before .before .before .before .before .before .before .before .before .before .run .last .1 .0) (c .before .before .before .before .before .before .before .before .before .before .before .before .work-off .last .1 .1 .0) (it-ran (c .before .before .before .before .before .before .before .before .before .before)) (it-off (c .before .before .before .before .before .before .before .before .before .before .before .before)) (c .before .before .before .before .before .before .before .before .done-of .result) (c .before .before .before .before .before .before .before .before .done-of .ensures) (admitted (c .before .before .before .before .before .before .before .before .before .before .before .before .before .before .before .before .before .before .before .before .before .before .before .before .before .before .before .before .before .before .before)) (its-choice (c .before .before .before .before .before .before .before .before .before .before .before .before .before .before .before)) (c .before .before .before .before .before .first-late .result) (c .before .before .before .before .before .before .before .wrapping-add-u32 .result) (c .before .before .before .before .before .before .before .wrapping-add-u32 .ensures) (c .before .before .before .before .before .first-late .ensures) (c .before .before .before .before .if2 .left) tail
-    (after-is (c .before .before .before .before .before .before .before .before .before .before .before .before .before .before .before .before .before .before .before .before .before .before .before .before .before .before .before .before .before .before .before .before .before .before .before .before .before .before .before .before .before .before .before .before .before .before .before .before .before .before .args .t) (c .before .before .before .before .before .before .before .before .before .before .before .before .before .before .before .before .before .before .before .before .before .before .before .before .before .before .before .before .before .before .before .before .before .before .before .before .before .before .before .before .before .before .before .before .before .before .before .before .before .before .pre) (c .before .before .before .before .before .before .before .before .before .before .before .before .before .before .before .before .before .before .before .before .before .before .before .before .before .before .before .before .before .before .before .before .before .before .before .before .before .before .before .before .before .before .before .before .before .before .before .before .before .before .args .st) (c .before .before .before .before .before .before .before .before .before .before .before .before .before .before .before .before .before .before .before .before .before .before .before .before .before .before .before .before .before .before .before .before .before .before .before .before .before .before .before .before .before .before .before .before .before .live-set .result) (c .before .before .before .before .before .before .before .before .before .before .before .before .before .before .before .before .before .before .before .before .before .before .before .before .before .before .before .before .before .before .before .before .before .before .before .before .before .before .before .before .before .before .before .before .deadlines-of .result) (c .before .before .before .before .before .before .before .before .before .before .before .before .before .before .before .before .before .before .before .before .before .before .before .before .before .before .before .before .before .before .before .before .before .before .before .before .before .before .before .before .before .before .before .waits-of .result) (its-rows (c .before .before .before .before .before .before .before .before .before .before .before .before .before .before .before .before .before .before .before .before .before .before .before .before .before .before .before .before .before .before .before .before .before .before .before)) (c .before .before .before .before .before .before .before .before .before .before .before .before .before .before .before .before .before .before .before .before .before .before .before .before .before .before .before .before .before .before .before .before .before .before .before .before .before .before .before .before .before .before .before .before .before .before .before .before .before .before .args .named) (c .before .before .before .before .before .before .before .before .before .before .before .before .before .before .before .before .before .before .before .before .before .before .before .before .before .before .before .before .begin .last .1 .1 .1 .0) (c .before .before .before .before .before .before .before .before .before .before .before .before .before .before .before .before .before .before .before .before .before .before .before .before .before .before .before .before .begin .last .1 .1 .1 .1 .0) (c .before .before .before .before .before .before .before .before .before .before .before .before .before .before .before .before .before .before .before .before .before .before .before .before .before .before .before .before .begin .ensures .0) (c .before .before .before .before .before .before .before .before .before .before .before .before .before .before .before .before .before .before .before .before .before .before .before .before .before .before .before .before .begin .ensures .1) (take (c .before .before .before .before .before .before .before .before .before .before .before .before .before .before .before .choose .result .count) (c .before .before .before .before .before .before .before .before .before .before .before .before .before .before .before .choose .result .keys)) (c .before .before .before .before .before .before .before .before .before .before .run .last .1 .0) (c .before .before .before .before .before .before .before .before .before .before .before .before .work-off .last .1 .1 .0) (it-ran (c .before .before .before .before .before .before .before .before .before .before)) (it-off (c .before .before .before .before .before .before .before .before .before .before .before .before)) (c .before .before .before .before .before .before .before .before .done-of .result) (c .before .before .before .before .before .before .before .before .done-of .ensures) (c .before .before .before .before .before .before .before .wrapping-add-u32 .result) (c .together .result) (c .before .before .before .before .before .before .before .wrapping-add-u32 .ensures) (c .together .ensures) (admitted (c .before .before .before .before .before .before .before .before .before .before .before .before .before .before .before .before .before .before .before .before .before .before .before .before .before .before .before .before .before .before .before) .running))
-    _ (ap (λ (x : Answer). record { answer = x; state = tail }) (c .before .before .before .answer2 .ensures))
+    let u = c .before .before .before .before .before .run in
+    let o = c .before .before .before .before .before .before .before .before in
+    let r = c .before .before .before .before .before .before .before .before .before .before .before in
+    let a = start-of r .args in
+    let l = take (o .own-choice .result .count) (o .own-choice .result .keys) in
+    c .told .ensures
+    ∙ ap (advanceTo l) (rows-worked (a .t) (a .st) (a .named) _ _ _ _ _ _ _ (its-rows (rows-at r)) (begun r) l _ _ (u .ensures .0) (u .ensures .1))
+    ∙ ap (advance (a .t) (a .st) (a .named)) (its-choice o)
+    ∙ sym (admitted-advances ownChoice (a .t) (a .st) (a .named) (admitted (c .before .before .before .before .before .before .before .before .before .before .before .before .before .before .before .before .before)))
 
 pub tick-on-spec : {M : Type 1} → statement M
 tick-on-spec =
@@ -162,25 +123,11 @@ tick-on-spec =
     deadlines-of-requires
     waits-of-requires
     left-of-requires
-    fits-rows-requires
     refusal-requires
     refuse-requires
     returns
-    begin-requires
-    put-costs-requires
-    put-work-requires
-    left-of-requires-2
-    sets-of-requires
-    cast-choose
-    choose-requires
-    work-off-requires
+    release-requires
+    own-choice-requires
     run-requires
-    done-of-requires
-    wrapping-add-u32-requires
-    first-late-requires
-    zeros-requires
-    answer-requires
-    returns-2
-    answer-requires-2
-    together-requires
-    returns-3)
+    told-requires
+    returns-2)

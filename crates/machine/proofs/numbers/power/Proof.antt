@@ -1,0 +1,19 @@
+use mathlib.Core.Path.{ap, _∙_}
+use Prim.Native.Nat.{ℕ, _%_, _^_}
+use native.Mathlib.Nat.{mod-eq-of-lt, one-mul}
+use lib.Pow.{pow-lt}
+use borrow.Author.Needs.{needs}
+use Rattle.machine.proofs.numbers.power.Statement.{statement}
+use Rattle.machine.proofs.numbers.power.Tie as tie
+
+cast-result : tie.Need-cast-result
+cast-result c = search needs
+
+shl-result : tie.Need-shl-result
+shl-result c = search needs
+
+returns : tie.Need-returns
+returns c = ap (λ (n : ℕ). n % 65536) (one-mul (2 ^ c .args .i)) ∙ mod-eq-of-lt (pow-lt (c .pre))
+
+pub power-spec : {M : Type 1} → statement M
+power-spec = tie.close (tie.spec cast-result shl-result returns)
