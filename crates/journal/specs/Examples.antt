@@ -77,7 +77,7 @@ examples =
     ∷ refuses three (0x4B ∷ []) 40 0
     -- 41 wrong mark
     ∷ refuses three (begins 1 ++ (0x4A ∷ 0x4A ∷ 0 ∷ 0 ∷ 0 ∷ [])) 41 1
-    -- 42 count above m, or pairs not ascending
+    -- 42 count above m, or pairs not ascending: with m 2 the same pairs in order are accepted
     ∷ refuses three (line 7 2 (1 ∷ 0 ∷ 2 ∷ 0 ∷ [])) 42 0
     ∷ refuses pair (line 7 2 (2 ∷ 0 ∷ 1 ∷ 0 ∷ [])) 42 0
     ∷ refuses pair (line 7 2 (1 ∷ 0 ∷ 1 ∷ 0 ∷ [])) 42 0
