@@ -2,7 +2,7 @@
 use mathlib.Core.Path.{_≡_, refl, sym, ap, ap₂, _∙_}
 use mathlib.Core.Bool.{Bool, true, false, _&&_, _||_, not}
 use mathlib.Core.List.{List, []}
-use Prim.Native.Nat.{ℕ, _+_, _*_, _-_, _/_, _^_, _≤_, _<_}
+use Prim.Native.Nat.{ℕ, _+_, _*_, _-_, _^_, _≤_, _<_}
 use native.Mathlib.Omega.{arith}
 use native.Mathlib.Decide.{decLt}
 use lib.ListN.{getD}
@@ -15,7 +15,6 @@ use Rattle.graph.proofs.Bits.{bit-or}
 use Rattle.graph.proofs.Members.{bit-without}
 use Rattle.table.specs.declared.Table.{Table}
 use Rattle.table.specs.Memory.{D, T, cost}
-use Rattle.fitness.specs.Fitness.{workLeft}
 use Rattle.fitness.proofs.Cases.{work-sum}
 use Rattle.machine.specs.declared.Phase.{Phase}
 use Rattle.machine.specs.declared.Phase.the-variants.{Running, Stopped}
@@ -26,7 +25,7 @@ use Rattle.machine.specs.declared.TaskState.{TaskState}
 use Rattle.machine.specs.declared.Ticked.{Ticked}
 use Rattle.machine.specs.States.{idle, activity, isLive, waitOf, deadlineOf, live, wait, deadline, remaining, workOf, wrap, ticksLeft, left, zeros}
 use Rattle.machine.specs.Steps.{availableSets, released, runOf, withWait, worked, finishes, ended, finished, missed}
-use Rattle.machine.specs.Choosing.{rowsAfter}
+use Rattle.machine.specs.Choosing.{begunDeadlines, begunWaits, begunRest, begunWork, rowsAfter}
 use Rattle.machine.specs.Ticking.{ticked, judged, advanceTo}
 use Rattle.machine.proofs.Index.{released-live, released-wait, released-deadline, ended-activity}
 use Rattle.machine.proofs.Clauses.{unused-task}
@@ -45,10 +44,10 @@ either false false = refl
 
 -- ---- STEP 1 of a state taken apart
 pub record Begun (t : Table) (st : State) (named : ℕ) (deadlines waits deadlines′ waits′ rest work : List ℕ) : Type 0 where
-  pub ends : deadlines′ ≡ row 16 (λ i. pick (bit named i) (wrap (st .clock + D t i)) (getD deadlines i 0))
-  pub rests : waits′ ≡ row 16 (λ i. pick (bit named i) (T t i) (getD waits i 0))
-  pub costs : rest ≡ row 256 (λ k. pick (bit named (k / 16)) (getD (t .costs) k 0) (getD (st .remaining) k 0))
-  pub sums : work ≡ row 16 (λ i. pick (bit named i) (workLeft (t .costs) i) (getD (st .work) i 0))
+  pub ends : deadlines′ ≡ begunDeadlines t (st .clock) named deadlines
+  pub rests : waits′ ≡ begunWaits t named waits
+  pub costs : rest ≡ begunRest (t .costs) named (st .remaining)
+  pub sums : work ≡ begunWork (t .costs) named (st .work)
 
 module _ (t : Table) (st : State) (named in-it : ℕ) (deadlines waits deadlines′ waits′ rest work : List ℕ) (a : Apart st in-it deadlines waits)
     (g : Begun t st named deadlines waits deadlines′ waits′ rest work) where

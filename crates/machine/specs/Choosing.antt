@@ -1,5 +1,5 @@
--- How the code takes steps 2 and 3, for the contracts of its parts: each task has a set of vertices as sixteen bits. And how it tells
--- which states fit, by rows.
+-- How the code takes the steps, for the contracts of its parts: by the set of live tasks and by rows of deadlines, waits, work and what
+-- remains; in steps 2 and 3 each task has a set of vertices as sixteen bits.
 use mathlib.Core.Path.{_≡_}
 use mathlib.Core.Bool.{Bool, _&&_, not}
 use mathlib.Core.List.{List}
@@ -9,8 +9,8 @@ use lib.Dec.{ltb, leb, eqb}
 use Rattle.graph.specs.Words.{pick, bit, all, row, lowestOr}
 use Rattle.graph.specs.Graph.{edge, heldBack}
 use Rattle.table.specs.declared.Table.{Table}
-use Rattle.table.specs.Memory.{task}
-use Rattle.fitness.specs.Fitness.{zeroTask, taskFits}
+use Rattle.table.specs.Memory.{task, D, T}
+use Rattle.fitness.specs.Fitness.{workLeft, zeroTask, taskFits}
 use Rattle.machine.specs.declared.Phase.{Phase}
 use Rattle.machine.specs.declared.Phase.the-variants.{Running, Stopped}
 use Rattle.machine.specs.declared.Activity.the-variants.{Idle, Live}
@@ -34,6 +34,19 @@ pub record RanksFirst (n : ℕ) (sets left : List ℕ) (i : ℕ) : Type 0 where
   pub some : (i ≡ 16 → ⊥) → 0 < getD sets i 0
   pub fewest : (i ≡ 16 → ⊥) → (j : ℕ) → j < n → 0 < getD sets j 0 → getD left i 0 ≤ getD left j 0
   pub lowest : (i ≡ 16 → ⊥) → (j : ℕ) → j < n → 0 < getD sets j 0 → getD left i 0 ≡ getD left j 0 → i ≤ j
+
+-- step 1 by rows: for each task named its deadline; its wait, T, of which step 4 takes one; its costs as what remains; and their sum
+abbrev pub begunDeadlines : Table → ℕ → ℕ → List ℕ → List ℕ
+begunDeadlines t clock named deadlines = row 16 (λ i. pick (bit named i) (wrap (clock + D t i)) (getD deadlines i 0))
+
+abbrev pub begunWaits : Table → ℕ → List ℕ → List ℕ
+begunWaits t named waits = row 16 (λ i. pick (bit named i) (T t i) (getD waits i 0))
+
+abbrev pub begunRest : List ℕ → ℕ → List ℕ → List ℕ
+begunRest costs named rest = row 256 (λ k. pick (bit named (k / 16)) (getD costs k 0) (getD rest k 0))
+
+abbrev pub begunWork : List ℕ → ℕ → List ℕ → List ℕ
+begunWork costs named work = row 16 (λ i. pick (bit named i) (workLeft costs i) (getD work i 0))
 
 -- which states fit, by the set of live tasks and the rows of ticks left, waits, work and what remains: the clauses are crate fitness'
 unfoldable pub fitsBy : Phase → Table → List ℕ → ℕ → List ℕ → List ℕ → List ℕ → List ℕ → Bool

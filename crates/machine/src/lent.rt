@@ -5,11 +5,9 @@ ghost use Prim.Native.Nat.{_+_, _-_, _/_, _<_};
 ghost use lib.ListN.{length, getD};
 ghost use lib.Dec.{ltb, eqb};
 ghost use Rattle.graph.specs.Words.{pick, bit, row, isIn, Distinct, lowest, setOf};
-ghost use Rattle.table.specs.Memory.{D, T};
-ghost use Rattle.fitness.specs.Fitness.{workLeft};
-ghost use Rattle.machine.specs.States.{wrap};
 ghost use Rattle.machine.specs.declared.State.{State};
 ghost use Rattle.machine.specs.Steps.{listed, runOf};
+ghost use Rattle.machine.specs.Choosing.{begunDeadlines, begunWaits, begunRest, begunWork};
 use crate::Chosen;
 use crate::numbers;
 use table::Table;
@@ -41,7 +39,7 @@ pub(crate) fn first_early(named: u16, n: u8, waits: &[u32; 16]) -> u8
 // Step 1 of the tasks named: the deadline is the clock plus D, wrapped; a wait of T, of which this tick takes one.
 fn begin_named(t: Table, clock: u32, named: u16, deadlines: &mut [u32; 16], waits: &mut [u32; 16])
     requires { ⌜ (length (now deadlines) ≡ 16) × (length (now waits) ≡ 16) ⌝ }
-    ensures { λ r. ⌜ (now (deadlines .exit) ≡ row 16 (λ i. pick (bit named i) (wrap (clock + D t i)) (getD (now (deadlines .entry)) i 0))) × (now (waits .exit) ≡ row 16 (λ i. pick (bit named i) (T t i) (getD (now (waits .entry)) i 0))) ⌝ }
+    ensures { λ r. ⌜ (now (deadlines .exit) ≡ begunDeadlines t clock named (now (deadlines .entry))) × (now (waits .exit) ≡ begunWaits t named (now (waits .entry))) ⌝ }
 {
     let tasks = t.tasks;
     for i in 0..16usize {
@@ -55,7 +53,7 @@ fn begin_named(t: Table, clock: u32, named: u16, deadlines: &mut [u32; 16], wait
 // The same; where none is named the table is not looked at.
 fn begin(t: Table, clock: u32, named: u16, deadlines: &mut [u32; 16], waits: &mut [u32; 16])
     requires { ⌜ (length (now deadlines) ≡ 16) × (length (now waits) ≡ 16) ⌝ }
-    ensures { λ r. ⌜ (now (deadlines .exit) ≡ row 16 (λ i. pick (bit named i) (wrap (clock + D t i)) (getD (now (deadlines .entry)) i 0))) × (now (waits .exit) ≡ row 16 (λ i. pick (bit named i) (T t i) (getD (now (waits .entry)) i 0))) ⌝ }
+    ensures { λ r. ⌜ (now (deadlines .exit) ≡ begunDeadlines t clock named (now (deadlines .entry))) × (now (waits .exit) ≡ begunWaits t named (now (waits .entry))) ⌝ }
 {
     if named == 0 {
         return;
@@ -76,7 +74,7 @@ fn put_task(costs: &[u32; 256], i: usize, remaining: &mut [u32; 256])
 // Step 1 of what remains: the costs of the tasks named.
 fn put_costs(costs: &[u32; 256], named: u16, remaining: &mut [u32; 256])
     requires { ⌜ length (now remaining) ≡ 256 ⌝ }
-    ensures { λ r. ⌜ now (remaining .exit) ≡ row 256 (λ k. pick (bit named (k / 16)) (getD (now (costs .entry)) k 0) (getD (now (remaining .entry)) k 0)) ⌝ }
+    ensures { λ r. ⌜ now (remaining .exit) ≡ begunRest (now (costs .entry)) named (now (remaining .entry)) ⌝ }
 {
     if named == 0 {
         return;
@@ -91,7 +89,7 @@ fn put_costs(costs: &[u32; 256], named: u16, remaining: &mut [u32; 256])
 // Step 1 of the work: the costs of the tasks named, added up.
 fn put_work(costs: &[u32; 256], named: u16, work: &mut [u64; 16])
     requires { ⌜ length (now work) ≡ 16 ⌝ }
-    ensures { λ r. ⌜ now (work .exit) ≡ row 16 (λ i. pick (bit named i) (workLeft (now (costs .entry)) i) (getD (now (work .entry)) i 0)) ⌝ }
+    ensures { λ r. ⌜ now (work .exit) ≡ begunWork (now (costs .entry)) named (now (work .entry)) ⌝ }
 {
     if named == 0 {
         return;
@@ -115,7 +113,7 @@ pub(crate) fn release(
     work: &mut [u64; 16],
 )
     requires { ⌜ (length (now deadlines) ≡ 16) × (length (now waits) ≡ 16) × (length (now remaining) ≡ 256) × (length (now work) ≡ 16) ⌝ }
-    ensures { λ r. ⌜ (now (deadlines .exit) ≡ row 16 (λ i. pick (bit named i) (wrap (clock + D t i)) (getD (now (deadlines .entry)) i 0))) × (now (waits .exit) ≡ row 16 (λ i. pick (bit named i) (T t i) (getD (now (waits .entry)) i 0))) × (now (remaining .exit) ≡ row 256 (λ k. pick (bit named (k / 16)) (getD (now (costs .entry)) k 0) (getD (now (remaining .entry)) k 0))) × (now (work .exit) ≡ row 16 (λ i. pick (bit named i) (workLeft (now (costs .entry)) i) (getD (now (work .entry)) i 0))) ⌝ }
+    ensures { λ r. ⌜ (now (deadlines .exit) ≡ begunDeadlines t clock named (now (deadlines .entry))) × (now (waits .exit) ≡ begunWaits t named (now (waits .entry))) × (now (remaining .exit) ≡ begunRest (now (costs .entry)) named (now (remaining .entry))) × (now (work .exit) ≡ begunWork (now (costs .entry)) named (now (work .entry))) ⌝ }
 {
     begin(t, clock, named, &mut *deadlines, &mut *waits);
     put_costs(costs, named, &mut *remaining);
