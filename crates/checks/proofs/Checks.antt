@@ -297,12 +297,12 @@ module _ (t : Table) (typed : Typed t) where
   unfolding writing number OwnNumber
   writer-number room o = rw (← checked-is) (go (checked t .outcome) (checked-own t))
     where
-      none : (b c : Bool) (l : ℕ) → pick b (pick c (Done l) (Room l)) Unused ≡ Refused o → ⊥
+      none : (b c : Bool) (l : ℕ) → pick (not b) Unused (pick (not c) (Room l) (Done l)) ≡ Refused o → ⊥
       none true true l e = let z : _≡_ {A = ℕ} 0 1 = cc in omega arith
       none true false l e = let z : _≡_ {A = ℕ} 0 1 = cc in omega arith
       none false c l e = let z : _≡_ {A = ℕ} 0 1 = cc in omega arith
 
-      go : (q : Outcome) → OwnNumber q → whenRead q Refused (λ _. pick (unusedZero t) (pick (leb (length (encode t)) room) (Done (length (encode t))) (Room (length (encode t)))) Unused) ≡ Refused o
+      go : (q : Outcome) → OwnNumber q → whenRead q Refused (λ _. pick (not (unusedZero t)) Unused (pick (not (leb (length (encode t)) room)) (Room (length (encode t))) (Done (length (encode t))))) ≡ Refused o
           → (3 ≤ number o) × (number o ≤ 7)
       go Read h e = absurd (none (unusedZero t) (leb (length (encode t)) room) (length (encode t)) e)
       go (Short p) h e = absurd h

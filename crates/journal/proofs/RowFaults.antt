@@ -1,6 +1,6 @@
 -- A row's refusals in their order, as the code finds them; and the machine's part in them.
 use mathlib.Core.Path.{_≡_, refl, sym, ap, ap₂, _∙_}
-use mathlib.Core.Bool.{Bool, true, false, _&&_, _||_, not}
+use mathlib.Core.Bool.{Bool, true, false, _&&_}
 use mathlib.Core.List.{List}
 use Prim.Native.Nat.{ℕ, _≤_, _<_, min}
 use native.Mathlib.Omega.{arith}
@@ -8,7 +8,7 @@ use lib.ListN.{length}
 use lib.Dec.{ltb, leb}
 use borrow.Author.Tests.{ltb-false}
 use Rattle.graph.specs.Words.{bit, row, lowest, lowestOr}
-use Rattle.graph.proofs.Facts.{clash, lowest-none, lowestOr-none}
+use Rattle.graph.proofs.Facts.{lowest-none, lowestOr-none}
 use Rattle.graph.proofs.Bits.{bit-zero}
 use Rattle.table.specs.declared.Table.{Table}
 use Rattle.machine.specs.declared.State.{State}
@@ -19,13 +19,13 @@ use Rattle.machine.specs.Steps.{released, availables, availableSets, offered}
 use Rattle.machine.specs.Ticking.{advance}
 use Rattle.machine.proofs.Lowest.{lowestOr-is}
 use Rattle.machine.proofs.Searching.{found, found-none}
-use Rattle.journal.specs.Rows.{rowSet, rowCount, rowEnd, listed, isStopped, cutShort, wrongMark, ascending, badList, notAvailable, tooFew, passesOver, choiceFault, setFault, fault}
+use Rattle.journal.specs.Rows.{rowSet, rowCount, rowEnd, listed, isStopped, cutShort, wrongMark, badList, notAvailable, tooFew, passesOver, choiceFault, setFault, fault}
 use Rattle.journal.specs.Listing.{SetTested}
 
 -- ---- those of its bytes and its release set
 module _ (t : Table) (st : State) (s : List ℕ) (at : ℕ) where
   refused-by : (n : ℕ) → 0 < n → fault t st s at ≡ n → SetTested t st s at n
-  refused-by n h e = record { refused = λ d. e; passed = λ z. absurd (omega arith); whole = λ z. absurd (omega arith); few = λ z. absurd (omega arith) }
+  refused-by n h e = record { refused = λ d. e; passed = λ z. absurd (omega arith); whole = λ z. absurd (omega arith) }
 
   pub stopped-47 : isStopped (st .phase) ≡ true → SetTested t st s at 47
   unfolding fault
@@ -81,12 +81,7 @@ module _ (t : Table) (st : State) (s : List ℕ) (at : ℕ) where
                 refused = λ z. absurd (z refl);
                 passed = λ z. to-early ∙ lowestOr-none (t .n) (early (rowSet s at)) (λ i. 33) _ (found-none 16 (t .n) (early (rowSet s at)) n-high q f k);
                 whole = λ z. is-whole b;
-                few = λ z. ltb-false (t .m) (rowCount s at) (first (ltb (t .m) (rowCount s at)) (not (ascending s at)) d);
               }
-                where
-                  first : (x y : Bool) → (x || y) ≡ false → x ≡ false
-                  first true y z = absurd (clash refl z)
-                  first false y z = refl
 
           -- no task is named
           pub none-named : t .n ≤ 16 → rowSet s at ≡ 0 → SetTested t st s at 0

@@ -3,21 +3,19 @@ use mathlib.Core.Path.{_≡_, refl, sym, ap, subst, _∙_}
 use mathlib.Core.Logic.{_⊎_, inl, inr, ⊎-elim}
 use mathlib.Core.Bool.{Bool, true, false, _&&_}
 use mathlib.Core.List.{List, [], _∷_}
-use Prim.Native.Nat.{ℕ, _+_, _*_, _-_, _^_, _<_}
+use Prim.Native.Nat.{ℕ, _^_, _<_}
 use native.Mathlib.Omega.{arith}
-use lib.ListN.{getD}
 use borrow.Author.Tests.{leb-false, ltb-false}
-use lib.Dec.{ltb}
-use Rattle.graph.specs.Words.{flag, pick, bit, row, thoseBelow, isIn, firstOr, lowestOr}
-use Rattle.graph.proofs.Facts.{clash, length-row, row-at, sum-same}
+use Rattle.graph.specs.Words.{bit, thoseBelow, isIn, firstOr, lowestOr}
+use Rattle.graph.proofs.Facts.{clash}
 use Rattle.table.specs.declared.Table.{Table}
 use Rattle.table.specs.declared.Outcome.the-variants.{Read}
 use Rattle.table.specs.Reading.{read}
 use Rattle.machine.specs.declared.Phase.the-variants.{Stopped}
 use Rattle.machine.specs.declared.State.{State}
 use Rattle.machine.specs.declared.Ticked.{Ticked}
-use Rattle.machine.specs.States.{wait, remaining, workOf, zeros}
-use Rattle.machine.specs.Steps.{released, runOf, worked, ended, finished, missed, Legal}
+use Rattle.machine.specs.States.{wait, zeros}
+use Rattle.machine.specs.Steps.{released, worked, ended, finished, missed, Legal}
 use Rattle.machine.specs.Fitting.{fits}
 use Rattle.machine.specs.Ticking.{ticked, judged, advanceTo, advance, refuse, tickOn}
 use Rattle.machine.proofs.Index.{released-phase, worked-phase, ended-phase}
@@ -26,7 +24,7 @@ use Rattle.machine.proofs.Cases.{beyond, tooSoon, Admitted, Case, unfit, halted
 use Rattle.machine.proofs.Fitted.{InRange}
 use Rattle.machine.proofs.Files.{tick-fits}
 use Rattle.machine.proofs.Keeping.{bit-below}
-use Rattle.machine.proofs.Filling.{row-same}
+use Rattle.machine.proofs.Together.{same-work}
 use Rattle.machine.proofs.Refusing.{on-table}
 use Rattle.journal.specs.Rows.{isStopped}
 use Rattle.journal.specs.Runs.{Tick, tickWith, answerOf, LegalTick}
@@ -57,23 +55,6 @@ module _ (t : Table) (st : State) (named : ℕ) (chosen : List ℕ) where
       goes = fine refl (ap isStopped same-phase ∙ r)
 
 -- ---- the state depends on the members of the choice alone
-module _ (t : Table) (st : State) (named : ℕ) (a b : List ℕ) (same : (k : ℕ) → k < 256 → isIn k a ≡ isIn k b) where
-  same-run : (i : ℕ) → i < 16 → runOf st i a ≡ runOf st i b
-  unfolding runOf
-  same-run i h = sum-same 16 _ _ (λ u q. ap (λ (c : Bool). flag (c && ltb 0 (remaining st i u))) (same (16 * i + u) (omega arith)))
-
-  same-work : worked t st named a ≡ worked t st named b
-  unfolding worked
-  same-work =
-      let f : List ℕ → ℕ → ℕ = λ l k. pick (isIn k l) (getD (st .remaining) k 0 - 1) (getD (st .remaining) k 0) in
-      let e : row 256 (f a) ≡ row 256 (f b) =
-      row-same 256 0 (f a) (row 256 (f b)) (length-row 256 (f b)) (λ k h.
-      ap (λ (c : Bool). pick c (getD (st .remaining) k 0 - 1) (getD (st .remaining) k 0)) (same k h) ∙ sym (row-at 256 (f b) k 0 h)) in
-      let g : List ℕ → ℕ → ℕ = λ l i. workOf st i - runOf st i l in
-      let w : row 16 (g a) ≡ row 16 (g b) =
-      row-same 16 0 (g a) (row 16 (g b)) (length-row 16 (g b)) (λ i h. ap (λ (n : ℕ). workOf st i - n) (same-run i h) ∙ sym (row-at 16 (g b) i 0 h)) in
-      rw (e, w) refl
-
 judged-state : (a b : List ℕ) (done : ℕ) (st : State) → judged a done st .state ≡ judged b done st .state
 unfolding judged lowestOr firstOr ticked
 judged-state a b done st = go (thoseBelow 16 (missed st))

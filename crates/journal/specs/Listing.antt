@@ -30,7 +30,6 @@ pub record SetTested (t : Table) (st : State) (s : List ℕ) (at n : ℕ) : Type
   pub refused : (n ≡ 0 → ⊥) → fault t st s at ≡ n
   pub passed : n ≡ 0 → fault t st s at ≡ choiceFault t (released t st (rowSet s at)) s at
   pub whole : n ≡ 0 → rowEnd s at ≤ length s
-  pub few : n ≡ 0 → rowCount s at ≤ t .m
 
 -- "m 1 to 8, n 1 to 16": a table that is above either, or not
 unfoldable pub tooWide : Table → Bool

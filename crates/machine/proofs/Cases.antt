@@ -2,7 +2,7 @@
 -- steps 4 to 6.
 use mathlib.Core.Path.{_≡_, refl, _∙_}
 use mathlib.Core.Logic.{⊎-elim}
-use mathlib.Core.Bool.{Bool, true, false, _&&_}
+use mathlib.Core.Bool.{Bool, true, false, _&&_, not}
 use mathlib.Core.List.{List}
 use Prim.Native.Nat.{ℕ}
 use native.Mathlib.Omega.{arith}
@@ -95,7 +95,7 @@ module _ (choose : Table → State → List ℕ) (t : Table) (st : State) (named
           (lowestOr (t .n) (λ i. bit named i && ltb 0 (wait st i)) (refuse st 33 0)
           (advance t st named chosenIn))
 
-      by : (b : Bool) → fits t st ≡ b → (p : Phase) → st .phase ≡ p → Case (pick b (whenRunning p inner (refuse st 32 0 255)) (refuse st 30 0 255))
+      by : (b : Bool) → fits t st ≡ b → (p : Phase) → st .phase ≡ p → Case (pick (not b) (refuse st 30 0 255) (whenRunning p (refuse st 32 0 255) inner))
       by true f Running r = goes f r inner refl
       by true f (Stopped k) r = halted f k r refl
       by false f p r = unfit f refl

@@ -245,15 +245,15 @@ spare-none t in-it rest sets e off j h = elim (decLt j 16) [
     are = e some refl (λ i b. sym (live-at 0 Running in-it [] [] rest [] i b))
 
 -- ---- STEP 4 goes by the members of the choice alone
-module _ (t : Table) (st : State) (named : ℕ) (a b : List ℕ) (same : (k : ℕ) → isIn k a ≡ isIn k b) where
-  same-run : (i : ℕ) → runOf st i a ≡ runOf st i b
+module _ (t : Table) (st : State) (named : ℕ) (a b : List ℕ) (same : (k : ℕ) → k < 256 → isIn k a ≡ isIn k b) where
+  same-run : (i : ℕ) → i < 16 → runOf st i a ≡ runOf st i b
   unfolding runOf
-  same-run i = sum-same 16 _ _ (λ u q. ap (λ (c : Bool). flag (c && ltb 0 (remaining st i u))) (same (16 * i + u)))
+  same-run i h = sum-same 16 _ _ (λ u q. ap (λ (c : Bool). flag (c && ltb 0 (remaining st i u))) (same (16 * i + u) (omega arith)))
 
   pub same-work : worked t st named a ≡ worked t st named b
   unfolding worked
   same-work =
       let f : List ℕ → ℕ → ℕ = λ l k. pick (isIn k l) (getD (st .remaining) k 0 - 1) (getD (st .remaining) k 0) in
-      let e : row 256 (f a) ≡ row 256 (f b) = row-ext 256 0 _ _ (λ k h. ap (λ (c : Bool). pick c (getD (st .remaining) k 0 - 1) (getD (st .remaining) k 0)) (same k)) in
-      let w : row 16 (λ i. workOf st i - runOf st i a) ≡ row 16 (λ i. workOf st i - runOf st i b) = row-ext 16 0 _ _ (λ i h. ap (λ (n : ℕ). workOf st i - n) (same-run i)) in
+      let e : row 256 (f a) ≡ row 256 (f b) = row-ext 256 0 _ _ (λ k h. ap (λ (c : Bool). pick c (getD (st .remaining) k 0 - 1) (getD (st .remaining) k 0)) (same k h)) in
+      let w : row 16 (λ i. workOf st i - runOf st i a) ≡ row 16 (λ i. workOf st i - runOf st i b) = row-ext 16 0 _ _ (λ i h. ap (λ (n : ℕ). workOf st i - n) (same-run i h)) in
       rw (e, w) refl

@@ -1,7 +1,7 @@
 -- A tick on a state that stands, case by case; a tick on a stopped state; reading that went well or not.
 use mathlib.Core.Path.{_≡_, refl, ap, _∙_}
 use mathlib.Core.Logic.{_⊎_, inl, inr, ⊎-elim}
-use mathlib.Core.Bool.{Bool, true, false, _&&_}
+use mathlib.Core.Bool.{Bool, true, false, _&&_, not}
 use mathlib.Core.List.{List}
 use Prim.Native.Nat.{ℕ, _/_, _%_, _^_, _≤_, _<_}
 use native.Mathlib.Omega.{arith}
@@ -58,9 +58,9 @@ module _ (t : Table) (good : GoodTable t) (choose : Table → State → List ℕ
   start : tickOn choose t st named ≡ lowestOr 16 (λ i. bit named i && leb (t .n) i) (refuse st 31 0) inner
   unfolding tickOn whenRunning inner
   start =
-      ap (λ (b : Bool). pick b (whenRunning (st .phase) (lowestOr 16 (λ i. bit named i && leb (t .n) i) (refuse st 31 0) inner) (refuse st 32 0 255)) (refuse st 30 0 255))
+      ap (λ (b : Bool). pick (not b) (refuse st 30 0 255) (whenRunning (st .phase) (refuse st 32 0 255) (lowestOr 16 (λ i. bit named i && leb (t .n) i) (refuse st 31 0) inner)))
       (stands-fits t good st s)
-      ∙ ap (λ (p : Phase). whenRunning p (lowestOr 16 (λ i. bit named i && leb (t .n) i) (refuse st 31 0) inner) (refuse st 32 0 255)) (s .running)
+      ∙ ap (λ (p : Phase). whenRunning p (refuse st 32 0 255) (lowestOr 16 (λ i. bit named i && leb (t .n) i) (refuse st 31 0) inner)) (s .running)
 
   named-tasks : ((i : ℕ) → i < 16 → bit named i && leb (t .n) i ≡ false) → (i : ℕ) → bit named i ≡ true → i < t .n
   named-tasks h i e = leb-false (t .n) i (not-both (bit named i) _ (h i (open-bit named i small e)) e)
@@ -92,9 +92,9 @@ stopped-on choose t st k named e = go (fits t st) refl
         (advance t st named (choose t (released t st named))))
 
     go : (b : Bool) → fits t st ≡ b → (tickOn choose t st named ≡ refuse st 32 0 255) ⊎ (tickOn choose t st named ≡ refuse st 30 0 255)
-    go true q = inl (ap (λ (b : Bool). pick b (whenRunning (st .phase) going (refuse st 32 0 255)) (refuse st 30 0 255)) q
-        ∙ ap (λ (p : Phase). whenRunning p going (refuse st 32 0 255)) e)
-    go false q = inr (ap (λ (b : Bool). pick b (whenRunning (st .phase) going (refuse st 32 0 255)) (refuse st 30 0 255)) q)
+    go true q = inl (ap (λ (b : Bool). pick (not b) (refuse st 30 0 255) (whenRunning (st .phase) (refuse st 32 0 255) going)) q
+        ∙ ap (λ (p : Phase). whenRunning p (refuse st 32 0 255) going) e)
+    go false q = inr (ap (λ (b : Bool). pick (not b) (refuse st 30 0 255) (whenRunning (st .phase) (refuse st 32 0 255) going)) q)
 
 pub same-state : (st : State) (n p k : ℕ) → refuse st n p k .state ≡ st
 unfolding refuse

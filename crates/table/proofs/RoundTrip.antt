@@ -1,7 +1,7 @@
 -- "What the reader accepts, the writer gives back byte for byte, and the reverse": through the writer's own outcome and buffer.
 use mathlib.Core.Path.{_≡_, refl, sym, ap, _∙_}
 use mathlib.Core.Logic.{_⊎_, inl, inr, _↔_}
-use mathlib.Core.Bool.{Bool, true, false}
+use mathlib.Core.Bool.{Bool, true, false, not}
 use mathlib.Core.List.{List, _++_}
 use Prim.Native.Nat.{ℕ, _≤_}
 use native.Mathlib.Omega.{arith}
@@ -48,7 +48,7 @@ done-tests t room l e =
     never w p q n (inl x) = let z : _≡_ {A = ℕ} 0 1 = cc in absurd (omega arith)
     never w p q n (inr x) = let z : _≡_ {A = ℕ} 0 1 = cc in absurd (omega arith)
 
-    tests : (z c : Bool) (n : ℕ) → pick z (pick c (Done n) (Room n)) Unused ≡ Done l → (z ≡ true) × (c ≡ true) × (l ≡ n)
+    tests : (z c : Bool) (n : ℕ) → pick (not z) Unused (pick (not c) (Room n) (Done n)) ≡ Done l → (z ≡ true) × (c ≡ true) × (l ≡ n)
     tests true true n p = (refl, refl, cc)
     tests true false n p = never (Room n) p refl n (inl refl)
     tests false c n p = never Unused p refl n (inr refl)

@@ -58,7 +58,7 @@ returns c =
     c .told .ensures
     ∙ ap (advanceTo l)
     (rows-worked (a .t) (a .st) (a .named) _ _ _ _ _ _ _ (its-rows r) (begun r) once _ _ (u .ensures .0) (u .ensures .1)
-    ∙ same-work (a .t) (released (a .t) (a .st) (a .named)) (a .named) once l (o .ensures .1))
+    ∙ same-work (a .t) (released (a .t) (a .st) (a .named)) (a .named) once l (λ k h. o .ensures .1 k))
 
 pub advance-spec : {M : Type 1} → statement M
 advance-spec =
