@@ -251,7 +251,7 @@ fn d19_ticks_left_from_one_to_d_less_one() {
 }
 
 #[test]
-fn a_fitting_state_need_not_be_reachable() {
+fn d56_a_fitting_state_need_not_be_reachable() {
     // Nine of ten ticks are gone and nothing has been done: never from idle
     // on two processors by this rule, yet it fits, and so does what follows.
     let a = table_a();
