@@ -1,2 +1,4 @@
 -- Document 02, M-102: which of the chains with the largest sum is listed. What it means is in proofs/.
 pub mod Chains
+-- Document 02, M-107: the longest chain after a vertex.
+pub mod Tails

@@ -1,0 +1,1 @@
+-- (proofs of the sharp verdict)

@@ -1,0 +1,2 @@
+-- Document 02, M-107: tails, the sharp due work and margin, the sharp verdict with its chain. What they mean is in proofs/.
+pub mod Sharp
