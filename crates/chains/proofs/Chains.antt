@@ -100,7 +100,7 @@ module _ (v : ℕ) (E : ℕ → ℕ → Bool) (f : ℕ → ℕ) where
           let q : g w ≡ getD sums w 0 = ap (λ (d : Bool). pick d (getD sums w 0) 0) e in
           omega (arith, s u a, largest-most v g w b)
 
-      chain-most : (u : ℕ) (c : List ℕ) → Chain v E (u ∷ c) → sumAlong f (u ∷ c) ≤ getD sums u 0
+      pub chain-most : (u : ℕ) (c : List ℕ) → Chain v E (u ∷ c) → sumAlong f (u ∷ c) ≤ getD sums u 0
       chain-most u [] p = omega (arith, sum-head u [], sum-none, s u (chain-head v E p))
       chain-most u (w ∷ c) (joined b e p) = omega (arith, sum-head u (w ∷ c), chain-most w c p, onward-most u w b (chain-head v E p) e)
 
@@ -156,7 +156,7 @@ module _ (v : ℕ) (E : ℕ → ℕ → Bool) (f : ℕ → ℕ) where
           ]
 
       module _ (rise : ℕ → ℕ) (r : Rising v E rise) where
-        after-chain : (k u left : ℕ) → u < v → getD sums u 0 ≡ f u + left → 16 ≤ rise u + k
+        pub after-chain : (k u left : ℕ) → u < v → getD sums u 0 ≡ f u + left → 16 ≤ rise u + k
             → Chain v E (u ∷ listed k u left) × (sumAlong f (listed k u left) ≡ left)
         after-chain zero u zero b h n = rw (nothing-left zero u) (alone b, sum-none)
         after-chain zero u (suc left) b h n =

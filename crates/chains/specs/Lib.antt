@@ -2,3 +2,5 @@
 pub mod Chains
 -- Document 02, M-107: the longest chain after a vertex.
 pub mod Tails
+-- How the code finds it, for the contracts of its parts.
+pub mod Descent

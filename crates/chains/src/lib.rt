@@ -1,11 +1,14 @@
-// The longest chain by name: document 02, M-102. The definitions are in specs/Chains.antt.
+// The longest chain by name and the tails: document 02, M-102 and M-107. The definitions are in specs/Chains.antt and specs/Tails.antt.
 ghost use mathlib.Core.Path.{_≡_};
+ghost use mathlib.Core.Bool.{true};
 ghost use mathlib.Core.List.{_∷_};
 ghost use Prim.Native.Nat.{_<_, max};
 ghost use Rattle.graph.specs.Words.{bit, lowest, members};
 
+mod descending;
 mod listing;
 
+pub use descending::tails_of;
 pub use listing::longest_chain;
 
 // A longest chain: its sum, and its vertices in path order; places from `count` on are 255.
@@ -21,7 +24,7 @@ const ALL: u16 = 65535;
 // The lowest member of a set that is not empty.
 fn first_of(set: u16) -> usize
     requires { ⌜ 0 < set ⌝ }
-    ensures { λ r. ⌜ (r ≡ lowest 16 16 (bit set)) × (r < 16) ⌝ }
+    ensures { λ r. ⌜ (r ≡ lowest 16 16 (bit set)) × (r < 16) × (bit set r ≡ true) ⌝ }
 {
     u16::trailing_zeros(set) as usize
 }

@@ -46,7 +46,7 @@ largest-none f = refl
 
 -- ---- times that are the same below v
 module _ (v : ℕ) (E : ℕ → ℕ → Bool) (f g : ℕ → ℕ) (same : (u : ℕ) → u < v → f u ≡ g u) where
-  from-same : (k u : ℕ) → getD (longestFrom v E f k) u 0 ≡ getD (longestFrom v E g k) u 0
+  pub from-same : (k u : ℕ) → getD (longestFrom v E f k) u 0 ≡ getD (longestFrom v E g k) u 0
   unfolding longestFrom
   from-same zero u = refl
   from-same (suc k) u =
@@ -76,7 +76,7 @@ module _ (v : ℕ) (E : ℕ → ℕ → Bool) (f : ℕ → ℕ) (v16 : v ≤ 16)
   none-to : (u w : ℕ) → v ≤ w → E u w ≡ false
   none-to u w h = off-when _ (λ e. let b = ends u w e .1 in omega arith)
 
-  from-narrow : (k u : ℕ) → getD (longestFrom 16 E f k) u 0 ≡ getD (longestFrom v E f k) u 0
+  pub from-narrow : (k u : ℕ) → getD (longestFrom 16 E f k) u 0 ≡ getD (longestFrom v E f k) u 0
   unfolding longestFrom
   from-narrow zero u = refl
   from-narrow (suc k) u =

@@ -1,7 +1,7 @@
 use Prim.Native.Nat.{_<_, _^_}
 use native.Mathlib.Omega.{arith}
 use borrow.Author.Needs.{needs}
-use Rattle.graph.proofs.Bits.{lowest-lt}
+use Rattle.graph.proofs.Bits.{lowest, lowest-lt}
 use Rattle.graph.proofs.Members.{first-is}
 use Rattle.chains.proofs.first_of.Statement.{statement}
 use Rattle.chains.proofs.first_of.Tie as tie
@@ -14,7 +14,7 @@ cast-result c =
 returns : tie.Need-returns
 returns c =
     let h : c .args .set < 2 ^ 16 = search needs in
-    (first-is (c .args .set) h, lowest-lt 16 (c .args .set) (c .pre) h)
+    (first-is (c .args .set) h, lowest-lt 16 (c .args .set) (c .pre) h, lowest 16 (c .args .set) (c .pre) h .here)
 
 pub first-of-spec : {M : Type 1} → statement M
 first-of-spec = tie.close (tie.spec cast-result returns)
