@@ -3,7 +3,7 @@
 use std::path::PathBuf;
 use std::process::{exit, Command};
 
-const FILES: [&str; 2] = ["plain", "plain_machine"];
+const FILES: [&str; 3] = ["plain", "plain_verdict", "plain_machine"];
 
 fn main() {
     let out = PathBuf::from(std::env::var("OUT_DIR").expect("cargo names a folder"));

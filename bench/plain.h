@@ -59,11 +59,29 @@ struct plain_ticked {
     uint16_t finished;
 };
 
+/* The vertices in an order in which each stands after its predecessors; fewer than v where there is a cycle. */
+static inline int sorted(const struct plain_task *task, uint8_t order[PLAIN_VERTICES]) {
+    uint8_t before[PLAIN_VERTICES] = {0};
+    for (int u = 0; u < task->v; u++)
+        EACH(w, task->succ[u]) before[w]++;
+    int count = 0;
+    for (int u = 0; u < task->v; u++)
+        if (before[u] == 0)
+            order[count++] = (uint8_t)u;
+    for (int i = 0; i < count; i++)
+        EACH(w, task->succ[order[i]])
+            if (--before[w] == 0)
+                order[count++] = (uint8_t)w;
+    return count;
+}
+
 struct plain_answer plain_read(const uint8_t *bytes, size_t count, struct plain_table *table);
 struct plain_answer plain_write(const struct plain_table *table, uint8_t *buffer, size_t room);
 struct plain_verdict plain_verdict(const uint8_t *bytes, size_t count);
+struct plain_verdict plain_sharp(const uint8_t *bytes, size_t count);
 /* The text's length; it is put down if it fits. */
 size_t plain_report(const uint8_t *bytes, size_t count, uint8_t *buffer, size_t room);
+size_t plain_sharp_report(const uint8_t *bytes, size_t count, uint8_t *buffer, size_t room);
 struct plain_answer plain_open(const uint8_t *bytes, size_t count, uint32_t clock, struct plain_state *state);
 /* Moves the state on where it stands. */
 struct plain_ticked plain_tick(const uint8_t *bytes, size_t count, struct plain_state *state, uint16_t releases);

@@ -1,4 +1,5 @@
-/* The C face from C: table A of document 01 is read, written back, judged, reported, opened and run, and a journal of it judged. */
+/* The C face from C: table A of document 01 is read, written back, judged by both verdicts, reported, opened and run, and a journal
+   of it judged. */
 #include "milltundra.h"
 #include <stdio.h>
 #include <string.h>
@@ -21,6 +22,43 @@ static int failed(const char *what) {
 
 static int ran(const struct mt_tick_answer *t, int place, uint8_t task, uint8_t vertex) {
     return t->ran[place].task == task && t->ran[place].vertex == vertex;
+}
+
+/* A step of 8 ticks within 7, on one processor. */
+static const uint8_t long_step[20] = {0x54, 0x42, 1, 1, 0x54, 0x4B, 1, 0, 7, 0, 0, 0, 7, 0, 0, 0, 8, 0, 0, 0};
+
+/* A step of 1 tick within 4 beside one of 10 within 20, on two processors: all 10 are too many within 4, of which 4 can be due. */
+static const uint8_t apart[36] = {
+    0x54, 0x42, 2, 2,
+    0x54, 0x4B, 1, 0, 4, 0, 0, 0, 4, 0, 0, 0, 1, 0, 0, 0,
+    0x54, 0x4B, 1, 0, 20, 0, 0, 0, 20, 0, 0, 0, 10, 0, 0, 0};
+
+static int names(struct mt_verdict_answer v, uint8_t number, uint8_t task, int64_t margin) {
+    return v.number == number && v.task == task && v.place == 0 && v.margin == margin && v.count > 0 && v.chain[0] == 0;
+}
+
+/* The sharp verdict accepts table A too, refuses with its own numbers, and accepts what the other one refuses. Its report on table A
+   is the same text. */
+static int sharply(void) {
+    uint8_t one[sizeof a], report[MT_REPORT_MOST];
+    memcpy(one, a, sizeof a);
+    one[2] = 1;
+    if (!names(mt_sharp(a, sizeof a), MT_DONE, 1, 0) || !names(mt_sharp(one, sizeof one), MT_SHARP_REFUSED, 0, -4))
+        return failed("the sharp verdict on table A is wrong");
+    if (!names(mt_sharp(long_step, sizeof long_step), MT_CHAIN_LONG, 0, 0))
+        return failed("a chain longer than its deadline is not refused");
+    if (!names(mt_verdict(apart, sizeof apart), MT_REFUSED, 0, -4) || !names(mt_sharp(apart, sizeof apart), MT_DONE, 0, 2))
+        return failed("the sharp verdict is no sharper");
+    struct mt_verdict_answer v = mt_sharp(a, 51);
+    if (v.number != MT_SHORT || v.task != MT_NO_TASK || v.place != 48 || v.margin != 0 || v.count != 0 || v.chain[0] != MT_NO_VERTEX)
+        return failed("a file cut short gets a sharp verdict");
+    size_t length = sizeof text - 1;
+    memset(report, 0xA5, sizeof report);
+    if (mt_sharp_report(a, sizeof a, report, length - 1) != length || report[0] != 0xA5)
+        return failed("a sharp report that does not fit is written");
+    if (mt_sharp_report(a, sizeof a, report, sizeof report) != length || memcmp(report, text, length) != 0 || report[length] != 0xA5)
+        return failed("the sharp report on table A is wrong");
+    return 0;
 }
 
 /* Examples P9 and P10: both tasks are released at clock 0; task 1 is named again too soon. */
@@ -116,8 +154,8 @@ int main(void) {
         return failed("a report that does not fit is written");
     if (mt_report(a, sizeof a, report, sizeof report) != length || memcmp(report, text, length) != 0 || report[length] != 0xA5)
         return failed("the report on table A is wrong");
-    if (runs() != 0 || judges() != 0)
+    if (sharply() != 0 || runs() != 0 || judges() != 0)
         return 1;
-    puts("the C face from C: table A is read, written back, judged, reported, opened and run, and a journal of it judged");
+    puts("the C face from C: table A is read, written back, judged by both verdicts, reported, opened and run, and a journal of it judged");
     return 0;
 }

@@ -25,6 +25,12 @@ enum {
 /* The verdict's number, besides 0 for accepted and those of reading. */
 enum { MT_REFUSED = 20 };  /* some margin is negative */
 
+/* The sharp verdict's numbers, besides 0 for accepted and those of reading. */
+enum {
+    MT_CHAIN_LONG = 22,    /* some longest chain exceeds its task's D, lowest task; looked for before any margin */
+    MT_SHARP_REFUSED = 23  /* some sharp margin is negative, lowest task */
+};
+
 /* A tick's numbers, besides 0 and those of reading. */
 enum {
     MT_UNFIT = 30,    /* the state does not fit the table */
@@ -75,7 +81,11 @@ enum { MT_LARGEST = 5060 };
 #define MT_MARGIN_LEAST INT64_C(-240000120000000)
 #define MT_MARGIN_MOST INT64_C(8000000)
 
-/* A buffer of this many bytes holds every report. */
+/* Both ends of the sharp margin's range. */
+#define MT_SHARP_LEAST INT64_C(-120000225000000)
+#define MT_SHARP_MOST INT64_C(8000000)
+
+/* A buffer of this many bytes holds every report, and every sharp report. */
 enum { MT_REPORT_MOST = 1366 };
 
 /* A task: vertices, deadline, period, and for each vertex its successors as sixteen bits. */
@@ -107,9 +117,10 @@ struct mt_write_answer {
     uint64_t place;
 };
 
-/* The verdict's number, the task that it names (MT_NO_TASK for a file that reading refuses), reading's place (otherwise 0), that
-   task's margin (0 where there is none), and its longest chain: `count` vertices in path order, of equal chains the one whose list
-   is first; the other places are MT_NO_VERTEX. A file that reading refuses has none, with a count of 0. */
+/* A verdict's number, the task that it names (MT_NO_TASK for a file that reading refuses), reading's place (otherwise 0), that
+   task's margin (by the sharp verdict its sharp one; 0 where there is none), and its longest chain: `count` vertices in path order,
+   of equal chains the one whose list is first; the other places are MT_NO_VERTEX. A file that reading refuses has none, with a count
+   of 0. */
 struct mt_verdict_answer {
     uint8_t number;
     uint8_t task;
@@ -189,6 +200,13 @@ uint8_t mt_quick(const uint8_t *bytes, size_t count);
 /* The length of the report on a table file. Its text is written to the front of the buffer if it fits there, and the rest is left;
    nothing is written otherwise. */
 uint64_t mt_report(const uint8_t *bytes, size_t count, uint8_t *buffer, size_t room);
+
+/* The sharp verdict on a table file: of a vertex only as much is due as its job's deadline leaves time for before the longest chain
+   after it. It accepts every table that mt_verdict accepts, and more. */
+struct mt_verdict_answer mt_sharp(const uint8_t *bytes, size_t count);
+
+/* The report as mt_report gives it, with the sharp due work and margins and the sharp verdict. */
+uint64_t mt_sharp_report(const uint8_t *bytes, size_t count, uint8_t *buffer, size_t room);
 
 /* Opens the machine on a table file at any clock: running with all tasks idle, or stopped at MT_NO_TASK where reading refuses. */
 struct mt_open_answer mt_open(const uint8_t *bytes, size_t count, uint32_t clock);

@@ -68,3 +68,17 @@ pub fn accepted(r: &mut Random, table: &Table) -> Table {
     assert_eq!(second::verdict::judge(&table).number, 0);
     table
 }
+
+/// The same graphs with deadlines and periods of very different size, so that many jobs of a task come within another's deadline; both
+/// verdicts accept, so that every task has to be looked at: costs up to 20, deadlines from 10,000 on.
+pub fn varied(r: &mut Random, table: &Table) -> Table {
+    let mut table = *table;
+    for task in &mut table.tasks[..usize::from(table.n)] {
+        task.deadline = 10_000 * r.pick(&[1, 2, 5, 10, 20, 50]) + r.range(0, 9_999);
+        task.period = r.range(task.deadline, 2 * task.deadline).min(MOST_TICKS);
+    }
+    table.costs = table.costs.map(|cost| cost.min(1 + cost % 20));
+    assert_eq!(second::verdict::judge(&table).number, 0);
+    assert_eq!(second::sharp::judge_sharp(&table).number, 0);
+    table
+}

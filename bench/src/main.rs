@@ -1,9 +1,9 @@
-//! Reads, writes, verdicts, reports, openings, ticks and rows of journals a second: ours beside the second program's and beside plain
-//! C's. The same inputs in one run, the sides in turn, so that other load falls on all. Buffers are not cleared in between. A ratio is ours over theirs: above 1,
+//! Reads, writes, verdicts (both), reports, openings, ticks and rows of journals a second: ours beside the second program's and beside
+//! plain C's. The same inputs in one run, the sides in turn, so that other load falls on all. Buffers are not cleared in between. A ratio is ours over theirs: above 1,
 //! ours is the quicker.
 
 use bench::ticking::{Load, Runs};
-use bench::{accepted, plain, plain_check, refused, sizes, Size};
+use bench::{accepted, plain, plain_check, refused, sizes, varied, Size};
 use compare::face;
 use second::random::{busy_rows, file, Random};
 use second::table::LARGEST;
@@ -25,7 +25,8 @@ fn main() {
     let sizes = sizes(&mut Random::new(seed), INPUTS);
     let inputs: Vec<Table> = sizes.iter().flat_map(|s| s.tables.clone()).collect();
     let good: Vec<Table> = sizes.iter().flat_map(good_tables).collect();
-    plain_check::check(&[inputs, good].concat());
+    let varied: Vec<Table> = sizes.iter().flat_map(varied_tables).collect();
+    plain_check::check(&[inputs, good, varied].concat());
     println!("a second, the best of {TURNS} turns; ours over each, and the median of that over the turns");
     println!(
         "{:<58}{:>10}{:>10}{:>10}{:>16}{:>16}",
@@ -35,19 +36,29 @@ fn main() {
         reading(size);
         writing(size);
         judging(size);
+        judging_sharply(size);
         reporting(size);
         opening(size);
         ticking(size, Load::One);
         ticking(size, Load::All);
         journals(size);
     }
-    println!(
-        "{:<58}{:>10}{:>10}{:>10}{:>16}{:>16}",
-        "the quick answer", "ours", "second", "verdict", "ours/second", "ours/verdict"
-    );
+    beside_the_verdict("the quick answer");
     for size in &sizes {
         answering(size);
     }
+    beside_the_verdict("the sharp verdict");
+    for size in &sizes {
+        sharply(size);
+    }
+}
+
+/// The heading of lines that have our own verdict in place of plain C.
+fn beside_the_verdict(what: &str) {
+    println!(
+        "{what:<58}{:>10}{:>10}{:>10}{:>16}{:>16}",
+        "ours", "second", "verdict", "ours/second", "ours/verdict"
+    );
 }
 
 fn reading(size: &Size) {
@@ -90,45 +101,74 @@ fn good_tables(size: &Size) -> Vec<Table> {
     tables.collect()
 }
 
+/// Tables with many jobs of a task within another's deadline, which both verdicts accept.
+fn varied_tables(size: &Size) -> Vec<Table> {
+    let r = &mut Random::new(4);
+    let tables = size.tables.iter().map(|table| varied(r, table));
+    tables.collect()
+}
+
 fn judging(size: &Size) {
-    let files: Vec<Vec<u8>> = good_tables(size).iter().map(file).collect();
+    let sides = (
+        face::verdict as _,
+        second::verdict as _,
+        plain::verdict as _,
+    );
+    answers(&format!("verdict {}", size.name), &good_tables(size), sides);
+}
+
+fn judging_sharply(size: &Size) {
+    let sides = (face::sharp as _, second::sharp as _, plain::sharp as _);
+    answers(
+        &format!("sharp   {}", size.name),
+        &varied_tables(size),
+        sides,
+    );
+}
+
+/// A function from a file to an answer.
+type Answer<T> = fn(&[u8]) -> T;
+
+/// Answers to the files of these tables.
+fn answers<A, B, C>(name: &str, tables: &[Table], sides: (Answer<A>, Answer<B>, Answer<C>)) {
+    let files: Vec<Vec<u8>> = tables.iter().map(file).collect();
     let ours = |k: usize| {
-        black_box(face::verdict(black_box(&files[k])));
+        black_box(sides.0(black_box(&files[k])));
     };
     let second = |k: usize| {
-        black_box(second::verdict(black_box(&files[k])));
+        black_box(sides.1(black_box(&files[k])));
     };
-    let plain = |k: usize| {
-        black_box(plain::verdict(black_box(&files[k])));
+    let third = |k: usize| {
+        black_box(sides.2(black_box(&files[k])));
     };
-    let sides: [Work; 3] = [Box::new(ours), Box::new(second), Box::new(plain)];
-    measure(&format!("verdict {}", size.name), sides);
+    let sides: [Work; 3] = [Box::new(ours), Box::new(second), Box::new(third)];
+    measure(name, sides);
 }
 
 /// The quick answer beside the second program's and beside our own verdict: it is sooner where a task fails, and no later where none
 /// does.
 fn answering(size: &Size) {
     let good = good_tables(size);
-    answering_on(size, "accepted", &good);
+    let line = |words: &str, tables: &[Table]| {
+        let sides = (face::quick as _, second::quick as _, face::verdict as _);
+        answers(&format!("{}; {words}", size.name), tables, sides);
+    };
+    line("accepted", &good);
     for (which, words) in [(0, "the first fails"), (usize::MAX, "the last fails")] {
         let bad = good.iter().map(|table| refused(*table, which));
-        answering_on(size, words, &bad.collect::<Vec<_>>());
+        line(words, &bad.collect::<Vec<_>>());
     }
 }
 
-fn answering_on(size: &Size, words: &str, tables: &[Table]) {
-    let files: Vec<Vec<u8>> = tables.iter().map(file).collect();
-    let ours = |k: usize| {
-        black_box(face::quick(black_box(&files[k])));
-    };
-    let second = |k: usize| {
-        black_box(second::quick(black_box(&files[k])));
-    };
-    let whole = |k: usize| {
-        black_box(face::verdict(black_box(&files[k])));
-    };
-    let sides: [Work; 3] = [Box::new(ours), Box::new(second), Box::new(whole)];
-    measure(&format!("{}; {words}", size.name), sides);
+/// The sharp verdict beside the second program's and beside our own old one: what the sharper count costs.
+fn sharply(size: &Size) {
+    for (words, tables) in [
+        ("long periods", good_tables(size)),
+        ("periods of any size", varied_tables(size)),
+    ] {
+        let sides = (face::sharp as _, second::sharp as _, face::verdict as _);
+        answers(&format!("{}; {words}", size.name), &tables, sides);
+    }
 }
 
 /// The second program makes its text on the heap.

@@ -29,7 +29,14 @@ pub mod entry {
         pub fn plain_read(bytes: *const u8, count: usize, table: *mut face::Table) -> Found;
         pub fn plain_write(table: *const face::Table, buffer: *mut u8, room: usize) -> Found;
         pub fn plain_verdict(bytes: *const u8, count: usize) -> face::VerdictAnswer;
+        pub fn plain_sharp(bytes: *const u8, count: usize) -> face::VerdictAnswer;
         pub fn plain_report(bytes: *const u8, count: usize, buffer: *mut u8, room: usize) -> usize;
+        pub fn plain_sharp_report(
+            bytes: *const u8,
+            count: usize,
+            buffer: *mut u8,
+            room: usize,
+        ) -> usize;
         pub fn plain_open(
             bytes: *const u8,
             count: usize,
@@ -59,9 +66,18 @@ pub fn verdict(bytes: &[u8]) -> face::VerdictAnswer {
     unsafe { entry::plain_verdict(bytes.as_ptr(), bytes.len()) }
 }
 
+pub fn sharp(bytes: &[u8]) -> face::VerdictAnswer {
+    unsafe { entry::plain_sharp(bytes.as_ptr(), bytes.len()) }
+}
+
 pub fn report(bytes: &[u8], buffer: &mut [u8]) -> usize {
     let (to, room) = (buffer.as_mut_ptr(), buffer.len());
     unsafe { entry::plain_report(bytes.as_ptr(), bytes.len(), to, room) }
+}
+
+pub fn sharp_report(bytes: &[u8], buffer: &mut [u8]) -> usize {
+    let (to, room) = (buffer.as_mut_ptr(), buffer.len());
+    unsafe { entry::plain_sharp_report(bytes.as_ptr(), bytes.len(), to, room) }
 }
 
 pub fn open(bytes: &[u8], clock: u32, state: &mut face::State) -> Found {

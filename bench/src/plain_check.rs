@@ -1,7 +1,7 @@
 //! Holds the plain C version against the second program, so that what is measured is the same work.
 
 use crate::plain;
-use compare::{face, judging, reading, writing};
+use compare::{face, judging, reading, sharply, writing};
 use second::flat::FlatState;
 use second::random::*;
 use second::table::LARGEST;
@@ -20,6 +20,7 @@ pub fn check(tables: &[Table]) {
         let r = &mut Random::new(seed);
         whole(&reading::input(r));
         whole(&judging::input(r));
+        whole(&sharply::input(r));
         write(&writing::input(r));
         run(r);
     }
@@ -36,7 +37,7 @@ fn same<T: PartialEq + std::fmt::Debug>(what: &str, plain: T, second: T) {
     }
 }
 
-/// Reading, the verdict and the report of a file, and opening it.
+/// Reading, both verdicts and reports of a file, and opening it.
 fn whole(bytes: &[u8]) {
     let found = second::read(bytes);
     let mut table = plain::no_table();
@@ -44,12 +45,17 @@ fn whole(bytes: &[u8]) {
     same("number", answer.number, found.number);
     same("place", answer.place, found.place);
     same("table", table, face::Table::from(&found.table));
-    let theirs = face::VerdictAnswer::from(&second::verdict(bytes));
-    same("verdict", plain::verdict(bytes), theirs);
-    let text = second::report(bytes);
+    let theirs = |verdict| face::VerdictAnswer::from(&verdict);
+    let verdict = theirs(second::verdict(bytes));
+    same("verdict", plain::verdict(bytes), verdict);
+    let sharp = theirs(second::sharp(bytes));
+    same("sharp verdict", plain::sharp(bytes), sharp);
     let mut buffer = [0u8; face::REPORT_MOST];
     let length = plain::report(bytes, &mut buffer);
-    same("report", &buffer[..length], &text[..]);
+    same("report", &buffer[..length], &second::report(bytes)[..]);
+    let length = plain::sharp_report(bytes, &mut buffer);
+    let text = second::sharp_report(bytes);
+    same("sharp report", &buffer[..length], &text[..]);
     let opened = second::open(bytes, 7);
     let mut state = flat(&opened.state);
     state.clock = 1;

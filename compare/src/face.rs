@@ -115,7 +115,7 @@ pub struct Ruling {
     pub rows: u64,
 }
 
-/// `MT_REPORT_MOST`: a buffer of this many bytes holds every report.
+/// `MT_REPORT_MOST`: a buffer of this many bytes holds every report, the sharp ones too.
 pub const REPORT_MOST: usize = 1366;
 
 /// The functions themselves, for measurements.
@@ -129,6 +129,9 @@ pub mod entry {
         pub fn mt_verdict(bytes: *const u8, count: usize) -> VerdictAnswer;
         pub fn mt_quick(bytes: *const u8, count: usize) -> u8;
         pub fn mt_report(bytes: *const u8, count: usize, buffer: *mut u8, room: usize) -> u64;
+        pub fn mt_sharp(bytes: *const u8, count: usize) -> VerdictAnswer;
+        pub fn mt_sharp_report(bytes: *const u8, count: usize, buffer: *mut u8, room: usize)
+            -> u64;
         pub fn mt_open(bytes: *const u8, count: usize, clock: u32) -> OpenAnswer;
         pub fn mt_tick(bytes: *const u8, count: usize, state: State, releases: u16) -> TickAnswer;
         pub fn mt_judge(
@@ -160,16 +163,26 @@ pub fn quick(bytes: &[u8]) -> u8 {
     unsafe { entry::mt_quick(bytes.as_ptr(), bytes.len()) }
 }
 
+pub fn sharp(bytes: &[u8]) -> VerdictAnswer {
+    // Safe: as for `read`.
+    unsafe { entry::mt_sharp(bytes.as_ptr(), bytes.len()) }
+}
+
 pub fn report(bytes: &[u8], buffer: &mut [u8]) -> u64 {
+    put_text(entry::mt_report, bytes, buffer)
+}
+
+pub fn sharp_report(bytes: &[u8], buffer: &mut [u8]) -> u64 {
+    put_text(entry::mt_sharp_report, bytes, buffer)
+}
+
+/// A function that writes a text on a file.
+type Texter = unsafe extern "C" fn(*const u8, usize, *mut u8, usize) -> u64;
+
+fn put_text(texter: Texter, bytes: &[u8], buffer: &mut [u8]) -> u64 {
+    let (to, room) = (buffer.as_mut_ptr(), buffer.len());
     // Safe: both pointers and counts are those of slices, the second one's held by nobody else, and any bytes get an answer.
-    unsafe {
-        entry::mt_report(
-            bytes.as_ptr(),
-            bytes.len(),
-            buffer.as_mut_ptr(),
-            buffer.len(),
-        )
-    }
+    unsafe { texter(bytes.as_ptr(), bytes.len(), to, room) }
 }
 
 pub fn open(bytes: &[u8], clock: u32) -> OpenAnswer {

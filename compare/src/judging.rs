@@ -1,4 +1,4 @@
-//! The verdict: number, task, place, margin and chain.
+//! The verdict: number, task, place, margin and chain; and what both verdicts are compared with and on.
 
 use crate::comparison::{hex, same, Comparison, Difference};
 use crate::face;
@@ -14,14 +14,29 @@ pub const JUDGING: Comparison = Comparison {
 };
 
 fn one(r: &mut Random) -> Result<u8, Difference> {
-    let bytes = input(r);
-    let theirs = face::VerdictAnswer::from(&second::verdict(&bytes));
-    let ours = face::verdict(&bytes);
-    same(theirs.number, &ours, &theirs, || hex(&bytes))
+    both(&input(r), second::verdict, face::verdict)
+}
+
+/// A verdict on a file from both sides.
+pub fn both(
+    bytes: &[u8],
+    theirs: fn(&[u8]) -> second::Verdict,
+    ours: fn(&[u8]) -> face::VerdictAnswer,
+) -> Result<u8, Difference> {
+    let theirs = face::VerdictAnswer::from(&theirs(bytes));
+    same(theirs.number, &ours(bytes), &theirs, || hex(bytes))
 }
 
 /// A table's file, now and then with damage, or what the reader is compared on. About half of those that are read are accepted.
 pub fn input(r: &mut Random) -> Vec<u8> {
+    input_near(r, near_edge)
+}
+
+/// A table near a verdict's edge: so many tasks, at most so many vertices a task, ticks about as large as this.
+pub type NearEdge = fn(&mut Random, usize, usize, u32) -> second::Table;
+
+/// The same for any verdict.
+pub fn input_near(r: &mut Random, edge: NearEdge) -> Vec<u8> {
     if r.one_in(8) {
         return reading::input(r);
     }
@@ -30,9 +45,9 @@ pub fn input(r: &mut Random) -> Vec<u8> {
         1 => largest_table(r),
         2 | 3 => extreme(r),
         4..=11 => tiny_table(r, true),
-        12 => near(r, ENTRIES, ENTRIES),
-        13..=15 => near(r, ENTRIES, 3),
-        _ => near(r, 4, 6),
+        12 => near(r, edge, ENTRIES, ENTRIES),
+        13..=15 => near(r, edge, ENTRIES, 3),
+        _ => near(r, edge, 4, 6),
     };
     let mut bytes = file(&table);
     if r.one_in(12) {
@@ -42,7 +57,7 @@ pub fn input(r: &mut Random) -> Vec<u8> {
 }
 
 /// Near the verdict's edge, or with costs cut to a half, with at most so many tasks and vertices a task, and ticks of any size.
-fn near(r: &mut Random, tasks: usize, vertices: usize) -> second::Table {
+fn near(r: &mut Random, edge: NearEdge, tasks: usize, vertices: usize) -> second::Table {
     let n = r.below(tasks) + 1;
     let scale = match r.below(4) {
         0 => r.range(2, 40),
@@ -50,7 +65,7 @@ fn near(r: &mut Random, tasks: usize, vertices: usize) -> second::Table {
         2 => r.range(5_000, MOST_TICKS),
         _ => MOST_TICKS,
     };
-    let mut table = near_edge(r, n, vertices, scale);
+    let mut table = edge(r, n, vertices, scale);
     if r.one_in(3) {
         table.costs = table.costs.map(|cost| cost.div_ceil(2));
     }

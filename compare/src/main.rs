@@ -9,7 +9,8 @@ use std::time::{Instant, SystemTime, UNIX_EPOCH};
 
 const USAGE: &str = "compare [--seed X] [--inputs N] [--only NAME]
     X   seed of the first input, from the clock where it is not given; the input after it has X + 1
-    N   inputs of a comparison, 200,000 where it is not given; openings get a half of them, reports and journals a quarter, runs an eighth
+    N   inputs of a comparison, 200,000 where it is not given; openings and sharp verdicts get a half of them, reports and journals a
+        quarter, runs an eighth
 ";
 
 struct Wanted {

@@ -21,18 +21,28 @@ struct Said {
 
 fn one(r: &mut Random) -> Result<u8, Difference> {
     let bytes = input(r);
+    let number = second::verdict(&bytes).number;
     let text = second::report(&bytes);
+    both(r, number, &bytes, &text, face::report)
+}
+
+/// A report on a file from both sides; the second program's is handed over, with its verdict's number.
+pub fn both(
+    r: &mut Random,
+    number: u8,
+    bytes: &[u8],
+    text: &[u8],
+    ours: fn(&[u8], &mut [u8]) -> u64,
+) -> Result<u8, Difference> {
     let before = buffer(r, text.len());
     let mut after = before.clone();
-    let length = face::report(&bytes, &mut after);
     let ours = Said {
-        length,
+        length: ours(bytes, &mut after),
         buffer: after,
     };
-    let theirs = theirs(&text, before.clone());
-    let number = second::verdict(&bytes).number;
+    let theirs = theirs(text, before.clone());
     same(number, &ours, &theirs, || {
-        format!("{}\nbuffer {}", hex(&bytes), hex(&before))
+        format!("{}\nbuffer {}", hex(bytes), hex(&before))
     })
 }
 

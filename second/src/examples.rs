@@ -111,6 +111,14 @@ pub fn table_p5() -> Vec<u8> {
     file(&table)
 }
 
+/// The lowest margin, by the old verdict and by the sharp one: P5 with task 0
+/// one chain.
+pub fn table_lowest() -> Table {
+    let mut table = read(&table_p5()).table;
+    table.tasks[0].succ = std::array::from_fn(|h| (2u32 << h) as u16);
+    table
+}
+
 fn changed(at: usize, byte: u8) -> Vec<u8> {
     let mut bytes = TABLE_A.to_vec();
     bytes[at] = byte;

@@ -1,62 +1,24 @@
 //! Exhaustive exploration of tiny tables: every state reachable from an idle
-//! machine over every release set that the waits allow and every legal choice.
+//! machine over every release set that the waits allow, every time that a step
+//! can take where steps may end early, and every legal choice.
 
+mod packing;
+mod rules;
 mod set;
+mod times;
 mod tiny;
 
+pub use packing::Packing;
+pub use rules::{accepts, due_rounded_down, Rule};
 pub use set::KeySet;
+pub use times::{each_draw, off_cost, Times};
 pub use tiny::small_tables;
 
 use crate::graph::longest_chain;
 use crate::legal::each_choice_by;
 use crate::machine::*;
 use crate::table::*;
-use crate::verdict::figures;
-
-/// Which tables count as accepted.
-#[derive(Clone, Copy, PartialEq, Eq, Debug)]
-pub enum Rule {
-    /// Document 01's verdict.
-    Verdict,
-    /// Every table.
-    SayYes,
-    /// Margins down to -1 pass: a miss is found on one processor only.
-    MarginLess,
-    /// Margins down to -m pass: a miss is found for each m.
-    MarginLessM,
-    /// D over T rounded down.
-    RoundDown,
-}
-
-/// Whether a rule accepts a table that the reader gave.
-pub fn accepts(rule: Rule, table: &Table) -> bool {
-    let least = |margin: fn(&Table, usize) -> i64| {
-        let margins = (0..usize::from(table.n)).map(|k| margin(table, k));
-        margins.min().unwrap_or(0)
-    };
-    match rule {
-        Rule::Verdict => crate::verdict::judge(table).number == 0,
-        Rule::SayYes => true,
-        Rule::MarginLess => least(|table, k| figures(table, k).margin) >= -1,
-        Rule::MarginLessM => least(|table, k| figures(table, k).margin) >= -i64::from(table.m),
-        Rule::RoundDown => least(margin_rounded_down) >= 0,
-    }
-}
-
-/// The error that looks right: D_k over T_i rounded down.
-pub fn due_rounded_down(table: &Table, k: usize) -> i64 {
-    let window = table.tasks[k].deadline;
-    let used = (0..usize::from(table.n)).map(|i| {
-        let vol: i64 = table.costs_of(i).iter().map(|c| i64::from(*c)).sum();
-        i64::from(window / table.tasks[i].period) * vol
-    });
-    used.sum()
-}
-
-fn margin_rounded_down(table: &Table, k: usize) -> i64 {
-    let right = figures(table, k);
-    right.margin + right.due - due_rounded_down(table, k)
-}
+use packing::CLOCK;
 
 /// What was wrong, and the step in which it was seen.
 #[derive(Clone, PartialEq, Eq, Debug)]
@@ -72,11 +34,13 @@ pub enum Wrong {
     Early(u8),
 }
 
-/// One step of a run: the tasks released and the vertices run (none for a
-/// chain seen before the choice).
+/// One step of a run: the tasks released, which of their vertices take another
+/// time than their cost, and the vertices run (none for a chain seen before the
+/// choice).
 #[derive(Clone, PartialEq, Eq, Debug)]
 pub struct Step {
     pub releases: u16,
+    pub off_cost: Vec<(Vertex, u32)>,
     pub ran: Vec<Vertex>,
 }
 
@@ -87,52 +51,6 @@ pub struct Found {
     pub ticks: u64,
     pub chains_too_long: u64,
     pub wrong: Option<(Wrong, Vec<Step>)>,
-}
-
-/// The clock of every unpacked state: three ticks before the clock's round
-/// ends, so that deadlines wrap.
-const CLOCK: u32 = u32::MAX - 2;
-/// A tiny table's tasks and vertices.
-const TINY: usize = 3;
-
-/// A state of a tiny table as one number, deadlines as ticks left: for each
-/// task three bits each of wait, ticks left (0 if idle) and three remainings.
-pub fn pack(state: &State) -> u64 {
-    (0..TINY).rev().fold(0, |key, i| {
-        let (left, wait) = match state.tasks[i] {
-            Job::Idle { wait } => (0, wait),
-            Job::Live { deadline, wait } => (deadline.wrapping_sub(state.clock), wait),
-        };
-        let row = sixteen(&state.remaining, i);
-        let fields = [wait, left, row[0], row[1], row[2]];
-        fields.iter().rev().fold(key, |key, field| {
-            debug_assert!(*field < 8);
-            key << 3 | u64::from(*field)
-        })
-    })
-}
-
-pub fn unpack(mut key: u64) -> State {
-    let mut state = State::zeros(CLOCK, Phase::Running);
-    let mut next = || {
-        let field = (key & 7) as u32;
-        key >>= 3;
-        field
-    };
-    for i in 0..TINY {
-        let (wait, left) = (next(), next());
-        if left > 0 {
-            let deadline = CLOCK.wrapping_add(left);
-            state.tasks[i] = Job::Live { deadline, wait };
-        } else {
-            state.tasks[i] = Job::Idle { wait };
-        }
-        for h in 0..TINY {
-            state.remaining[ENTRIES * i + h] = next();
-        }
-        state.work[i] = summed(sixteen(&state.remaining, i));
-    }
-    state
 }
 
 /// The lowest live job whose longest unfinished chain exceeds its ticks left,
@@ -166,26 +84,42 @@ fn leads(task: &Task, from: usize, to: usize) -> bool {
     next.into_iter().any(|h| h == to || leads(task, h, to))
 }
 
-/// Explores a tiny table wholly, or up to the first miss or misfit; then a
-/// chain too long without a miss is what is wrong, if there is one.
-pub fn explore(table: &Table, seen: &mut KeySet) -> Found {
-    explore_by(table, held_back, seen)
+/// How a run goes: which vertices wait, and what they take.
+#[derive(Clone, Copy)]
+pub struct How {
+    pub held: Held,
+    pub times: Times,
 }
 
-/// The same with any rule of what waits.
-pub fn explore_by(table: &Table, held: Held, seen: &mut KeySet) -> Found {
+/// The machine as the documents have it, with stated costs.
+pub const STATED: How = How {
+    held: held_back,
+    times: Times::Stated,
+};
+
+/// The same where steps may end early.
+pub const EARLY: How = How {
+    held: held_back,
+    times: Times::Early,
+};
+
+/// Explores a tiny table wholly, or up to the first miss or misfit; then a
+/// chain too long without a miss is what is wrong, if there is one. A chain
+/// counts what truly remains. Where steps end early a state need not fit: a
+/// vertex that waits has its own time left, not its whole cost.
+pub fn explore(table: &Table, how: How, seen: &mut KeySet) -> Found {
+    let packing = Packing::of(table, how.times).expect("a tiny table's states go into 64 bits");
+    seen.clear();
+    seen.insert(packing.pack(&State::zeros(CLOCK, Phase::Running)));
     let mut search = Search {
         table,
-        held,
+        how,
+        packing,
         seen,
         parents: vec![0],
         found: Found::default(),
         chain: None,
     };
-    search.seen.clear();
-    search
-        .seen
-        .insert(pack(&State::zeros(CLOCK, Phase::Running)));
     let mut at = 0;
     while at < search.seen.len() && search.found.wrong.is_none() {
         search.expand(at);
@@ -193,11 +127,7 @@ pub fn explore_by(table: &Table, held: Held, seen: &mut KeySet) -> Found {
     }
     search.found.states = search.seen.len() as u64;
     if search.found.wrong.is_none() {
-        if let Some((task, at, releases)) = search.chain {
-            let last = Step {
-                releases,
-                ran: Vec::new(),
-            };
+        if let Some((task, at, last)) = search.chain.take() {
             search.found.wrong = Some((Wrong::Chain(task), search.run_to(at, last)));
         }
     }
@@ -206,35 +136,25 @@ pub fn explore_by(table: &Table, held: Held, seen: &mut KeySet) -> Found {
 
 struct Search<'a> {
     table: &'a Table,
-    held: Held,
+    how: How,
+    packing: Packing,
     seen: &'a mut KeySet,
     /// For each state in the order found, the one it was found from.
     parents: Vec<u32>,
     found: Found,
-    chain: Option<(u8, usize, u16)>,
+    chain: Option<(u8, usize, Step)>,
 }
 
 impl Search<'_> {
+    /// Every tick from a state; stops at the first thing that is wrong.
     fn expand(&mut self, at: usize) {
-        let table = self.table;
-        let state = unpack(self.seen.key(at));
+        let (table, times) = (self.table, self.how.times);
+        let state = self.packing.unpack(self.seen.key(at));
         for releases in release_sets(table, &state) {
-            let released = release(table, &state, releases);
-            if let Some(task) = chain_too_long(table, &released) {
-                self.found.chains_too_long += 1;
-                self.chain = self.chain.or(Some((task, at, releases)));
-            }
-            let whole = each_choice_by(table, &released, self.held, |ran| {
-                let moved = go_on(table, &released, releases, ran);
-                self.found.ticks += 1;
-                let early = runs_early(table, &released, ran).map(Wrong::Early);
-                let wrong = early.or_else(|| self.check(&moved, at));
-                if let Some(wrong) = wrong {
-                    let ran = ran.to_vec();
-                    let run = self.run_to(at, Step { releases, ran });
-                    self.found.wrong = Some((wrong, run));
-                }
-                self.found.wrong.is_none()
+            let mut released = release(table, &state, releases);
+            let whole = each_draw(table, &mut released, releases, times, |drawn| {
+                self.look_at_chains(drawn, at, releases);
+                self.choose(drawn, at, releases)
             });
             if !whole {
                 return;
@@ -242,18 +162,51 @@ impl Search<'_> {
         }
     }
 
+    fn look_at_chains(&mut self, drawn: &State, at: usize, releases: u16) {
+        if let Some(task) = chain_too_long(self.table, drawn) {
+            self.found.chains_too_long += 1;
+            if self.chain.is_none() {
+                self.chain = Some((task, at, self.step_of(drawn, releases, &[])));
+            }
+        }
+    }
+
+    /// Every legal choice; false if something is wrong.
+    fn choose(&mut self, drawn: &State, at: usize, releases: u16) -> bool {
+        let table = self.table;
+        each_choice_by(table, drawn, self.how.held, |ran| {
+            let moved = go_on(table, drawn, releases, ran);
+            self.found.ticks += 1;
+            let early = runs_early(table, drawn, ran).map(Wrong::Early);
+            let wrong = early.or_else(|| self.check(&moved, at));
+            if let Some(wrong) = wrong {
+                let run = self.run_to(at, self.step_of(drawn, releases, ran));
+                self.found.wrong = Some((wrong, run));
+            }
+            self.found.wrong.is_none()
+        })
+    }
+
     /// Looks at a next state and keeps it if it is new.
     fn check(&mut self, moved: &Moved, from: usize) -> Option<Wrong> {
         if let Some(task) = moved.missed {
             return Some(Wrong::Miss(task));
         }
-        if self.seen.insert(pack(&moved.state)) {
+        if self.seen.insert(self.packing.pack(&moved.state)) {
             self.parents.push(from as u32);
-            if !fits(self.table, &moved.state) {
+            if self.how.times == Times::Stated && !fits(self.table, &moved.state) {
                 return Some(Wrong::Misfit);
             }
         }
         None
+    }
+
+    fn step_of(&self, drawn: &State, releases: u16, ran: &[Vertex]) -> Step {
+        Step {
+            releases,
+            off_cost: off_cost(self.table, drawn, releases),
+            ran: ran.to_vec(),
+        }
     }
 
     /// The run from idle to a state, and then one step more.
@@ -271,18 +224,25 @@ impl Search<'_> {
 
     /// A step that leads from one state to another.
     fn step(&self, from: u64, to: u64) -> Step {
-        let state = unpack(from);
+        let state = self.packing.unpack(from);
         let mut step = None;
         for releases in release_sets(self.table, &state) {
-            let released = release(self.table, &state, releases);
-            each_choice_by(self.table, &released, self.held, |ran| {
-                let moved = go_on(self.table, &released, releases, ran);
-                if moved.missed.is_none() && pack(&moved.state) == to {
-                    let ran = ran.to_vec();
-                    step = Some(Step { releases, ran });
-                }
-                step.is_none()
-            });
+            let mut released = release(self.table, &state, releases);
+            each_draw(
+                self.table,
+                &mut released,
+                releases,
+                self.how.times,
+                |drawn| {
+                    each_choice_by(self.table, drawn, self.how.held, |ran| {
+                        let moved = go_on(self.table, drawn, releases, ran);
+                        if moved.missed.is_none() && self.packing.pack(&moved.state) == to {
+                            step = Some(self.step_of(drawn, releases, ran));
+                        }
+                        step.is_none()
+                    })
+                },
+            );
         }
         step.expect("a state was found by a step from its parent")
     }

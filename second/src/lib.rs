@@ -1,4 +1,4 @@
-//! A second program for job tables: reader, writer, verdict, report, tick
+//! A second program for job tables: reader, writer, verdicts, reports, tick
 //! machine and judge of journals, written from documents 01 and 02 alone, to be
 //! compared with the first.
 
@@ -15,6 +15,7 @@ pub mod quick;
 pub mod random;
 pub mod reader;
 pub mod report;
+pub mod sharp;
 pub mod sum;
 pub mod table;
 pub mod vectors;
@@ -26,7 +27,8 @@ pub use judge::{judge, Ruling};
 pub use machine::{open, tick, tick_in_place, Opened, State, Ticked};
 pub use quick::quick;
 pub use reader::{read, read_at, Core, Read};
-pub use report::report;
+pub use report::{report, sharp_report};
+pub use sharp::sharp;
 pub use table::{Table, Task};
 pub use verdict::{verdict, Verdict};
 pub use watch::watch;

@@ -4,6 +4,7 @@ mod bytes;
 mod flat;
 mod journals;
 mod runs;
+mod sharp;
 mod states;
 mod tables;
 
@@ -11,6 +12,7 @@ pub use bytes::*;
 pub use flat::*;
 pub use journals::*;
 pub use runs::*;
+pub use sharp::*;
 pub use states::*;
 pub use tables::*;
 

@@ -2,6 +2,7 @@
 
 mod journals;
 mod read_cases;
+mod sharp_cases;
 mod verdict_cases;
 mod verdicts;
 mod watch_cases;
@@ -9,6 +10,7 @@ mod write_cases;
 
 pub use journals::*;
 pub use read_cases::read_cases;
+pub use sharp_cases::{both_cases, sharp_cases};
 pub use verdict_cases::verdict_cases;
 pub use verdicts::*;
 pub use watch_cases::watch_cases;

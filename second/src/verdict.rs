@@ -1,4 +1,5 @@
-//! The figures of a task and the verdict on a table.
+//! The figures of a task and the verdict on a table; a way of judging, of which
+//! there are two (the other one is in `sharp`).
 
 use crate::chain::{longest_named, Chain};
 use crate::graph::longest_chain;
@@ -27,46 +28,82 @@ pub struct Figures {
     pub margin: i64,
 }
 
+impl Figures {
+    pub const ZERO: Figures = Figures {
+        vol: 0,
+        len: 0,
+        due: 0,
+        margin: 0,
+    };
+}
+
+/// The figures of every task, zeros where there is none.
+pub type Rows = [Figures; ENTRIES];
+
+/// A way of judging: the figures of all tasks, and what refuses a table with
+/// them: a number and a task.
+#[derive(Clone, Copy)]
+pub struct Way {
+    pub rows: fn(&Table) -> Rows,
+    pub refusal: fn(&Table, &[Figures]) -> Option<(u8, usize)>,
+}
+
+/// Document 01's verdict.
+pub const OLD: Way = Way {
+    rows,
+    refusal: |_, rows| first_negative(rows).map(|k| (20, k)),
+};
+
+impl Way {
+    /// The verdict on a file's bytes.
+    pub fn verdict(&self, bytes: &[u8]) -> Verdict {
+        let found = read(bytes);
+        if found.number != 0 {
+            return Verdict {
+                number: found.number,
+                place: found.place,
+                task: NO_TASK,
+                margin: 0,
+                chain: Chain::NONE,
+            };
+        }
+        self.judge(&found.table)
+    }
+
+    /// The verdict on a table that the reader gave.
+    pub fn judge(&self, table: &Table) -> Verdict {
+        self.named(table, &(self.rows)(table)[..usize::from(table.n)])
+    }
+
+    /// The verdict with the figures of all tasks: the refusal's task, else
+    /// the lowest with the smallest margin.
+    pub fn named(&self, table: &Table, rows: &[Figures]) -> Verdict {
+        let least = (0..rows.len()).min_by_key(|k| rows[*k].margin);
+        let accepted = least.map_or((0, usize::from(NO_TASK)), |k| (0, k));
+        let (number, k) = (self.refusal)(table, rows).unwrap_or(accepted);
+        Verdict {
+            number,
+            place: 0,
+            task: k as u8,
+            margin: rows.get(k).map_or(0, |figures| figures.margin),
+            chain: chain(table, k),
+        }
+    }
+}
+
+/// The lowest task with a negative margin.
+pub fn first_negative(rows: &[Figures]) -> Option<usize> {
+    rows.iter().position(|figures| figures.margin < 0)
+}
+
 /// The verdict on a file's bytes.
 pub fn verdict(bytes: &[u8]) -> Verdict {
-    let found = read(bytes);
-    if found.number != 0 {
-        return Verdict {
-            number: found.number,
-            place: found.place,
-            task: NO_TASK,
-            margin: 0,
-            chain: Chain::NONE,
-        };
-    }
-    judge(&found.table)
+    OLD.verdict(bytes)
 }
 
 /// The verdict on a table that the reader gave.
 pub fn judge(table: &Table) -> Verdict {
-    let vols = vols(table);
-    let mut negative = None;
-    let mut least: Option<(u8, i64)> = None;
-    for k in 0..table.n {
-        let figures = figures_with(table, &vols, usize::from(k));
-        let here = (k, figures.margin);
-        if figures.margin < 0 {
-            negative = negative.or(Some(here));
-        }
-        if least.is_none_or(|(_, margin)| figures.margin < margin) {
-            least = Some(here);
-        }
-    }
-    let refused = negative.map(|at| (20, at));
-    let accepted = least.map(|at| (0, at));
-    let (number, (task, margin)) = refused.or(accepted).unwrap_or((0, (NO_TASK, 0)));
-    Verdict {
-        number,
-        place: 0,
-        task,
-        margin,
-        chain: chain(table, usize::from(task)),
-    }
+    OLD.judge(table)
 }
 
 /// The longest chain of task k by name; none of a task that is not there.
@@ -77,18 +114,34 @@ fn chain(table: &Table, k: usize) -> Chain {
     longest_named(&task.succ, table.costs_of(k), usize::from(task.v))
 }
 
-/// vol, len, due and margin of task k of a table that the reader gave.
-pub fn figures(table: &Table, k: usize) -> Figures {
-    figures_with(table, &vols(table), k)
+fn rows(table: &Table) -> Rows {
+    let vols = vols(table);
+    rows_with(table, &vols, |k| due(table, &vols, k))
 }
 
-fn figures_with(table: &Table, vols: &[i64; ENTRIES], k: usize) -> Figures {
+/// The figures of all tasks from their vol and their due work, however that is
+/// counted.
+pub fn rows_with(table: &Table, vols: &[i64; ENTRIES], due: impl Fn(usize) -> i64) -> Rows {
+    let mut rows = [Figures::ZERO; ENTRIES];
+    for k in 0..usize::from(table.n) {
+        rows[k] = figures_with(table, k, vols[k], due(k));
+    }
+    rows
+}
+
+/// vol, len, due and margin of task k of a table that the reader gave.
+pub fn figures(table: &Table, k: usize) -> Figures {
+    let vols = vols(table);
+    figures_with(table, k, vols[k], due(table, &vols, k))
+}
+
+/// The margin of a task from its due work.
+pub fn figures_with(table: &Table, k: usize, vol: i64, due: i64) -> Figures {
     let task = &table.tasks[k];
     let len = longest_chain(&task.succ, table.costs_of(k), usize::from(task.v)) as i64;
-    let due = due(table, vols, k);
     let m = i64::from(table.m);
     Figures {
-        vol: vols[k],
+        vol,
         len,
         due,
         margin: m * i64::from(task.deadline) - (m - 1) * len - due,
@@ -103,7 +156,7 @@ fn due(table: &Table, vols: &[i64; ENTRIES], k: usize) -> i64 {
         .sum()
 }
 
-fn vols(table: &Table) -> [i64; ENTRIES] {
+pub fn vols(table: &Table) -> [i64; ENTRIES] {
     let mut vols = [0; ENTRIES];
     for (i, vol) in vols.iter_mut().enumerate() {
         *vol = table.costs_of(i).iter().map(|cost| i64::from(*cost)).sum();

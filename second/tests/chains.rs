@@ -1,21 +1,13 @@
 //! The longest chain by name against a list of all chains, and the examples
 //! of the reading D46 of docs/DECISIONS.md.
 
+mod common;
+
+use common::{onward, sum_of};
 use second::chain::{longest_named, Chain};
 use second::random::*;
 use second::table::{Table, ENTRIES};
 use second::*;
-
-/// Every chain that begins with this one, itself among them.
-fn onward(succ: &[u16; ENTRIES], chain: Vec<u8>, all: &mut Vec<Vec<u8>>) {
-    let last = usize::from(*chain.last().unwrap());
-    for w in (0..ENTRIES as u8).filter(|w| succ[last] >> w & 1 == 1) {
-        let mut longer = chain.clone();
-        longer.push(w);
-        onward(succ, longer, all);
-    }
-    all.push(chain);
-}
 
 /// The first in the order of words of those with the largest sum.
 fn by_listing(succ: &[u16; ENTRIES], costs: &[u32; ENTRIES], v: usize) -> Vec<u8> {
@@ -23,12 +15,7 @@ fn by_listing(succ: &[u16; ENTRIES], costs: &[u32; ENTRIES], v: usize) -> Vec<u8
     for h in 0..v as u8 {
         onward(succ, vec![h], &mut all);
     }
-    let sum = |chain: &[u8]| -> u64 {
-        chain
-            .iter()
-            .map(|h| u64::from(costs[usize::from(*h)]))
-            .sum()
-    };
+    let sum = |chain: &[u8]| sum_of(chain, costs);
     let most = all.iter().map(|chain| sum(chain)).max().unwrap();
     all.into_iter()
         .filter(|chain| sum(chain) == most)

@@ -5,19 +5,24 @@ use second::explore::*;
 use second::legal::is_legal;
 use second::machine::*;
 use second::random::*;
-use second::table::Table;
+use second::sharp::judge_sharp;
+use second::table::{sixteen, Table};
 use second::verdict::figures;
 
-fn first_wrong(rule: Rule, seed: u64, tables: u32) -> (u32, Option<(Table, Found)>) {
+fn first_wrong(rule: Rule, how: How, seed: u64, tables: u32) -> (u32, Option<(Table, Found)>) {
     let r = &mut Random::new(seed);
     let mut seen = KeySet::new();
     let mut explored = 0;
     while explored < tables {
         let roomy = r.coin();
-        let table = tiny_table(r, roomy);
+        let table = if rule.is_sharp() && r.one_in(40) {
+            tiny_fork(r, |table| accepts(rule, table))
+        } else {
+            tiny_table(r, roomy)
+        };
         if accepts(rule, &table) {
             explored += 1;
-            let found = explore(&table, &mut seen);
+            let found = explore(&table, how, &mut seen);
             if found.wrong.is_some() {
                 return (explored, Some((table, found)));
             }
@@ -28,7 +33,11 @@ fn first_wrong(rule: Rule, seed: u64, tables: u32) -> (u32, Option<(Table, Found
 
 #[test]
 fn accepted_tables_never_miss() {
-    assert_eq!(first_wrong(Rule::Verdict, 61, 4_000).1, None);
+    for rule in [Rule::Verdict, Rule::Sharp] {
+        for how in [STATED, EARLY] {
+            assert_eq!(first_wrong(rule, how, 61, 4_000).1, None);
+        }
+    }
 }
 
 #[test]
@@ -38,14 +47,34 @@ fn a_weakened_rule_misses() {
         Rule::MarginLess,
         Rule::MarginLessM,
         Rule::RoundDown,
+        Rule::SharpOwnTail,
+        Rule::SharpFirst,
+        Rule::SharpNo22,
     ] {
-        let (at, wrong) = first_wrong(rule, 62, 4_000);
-        let (table, found) = wrong.expect("a miss");
-        let Some((Wrong::Miss(task), run)) = found.wrong else {
-            panic!("{rule:?}: not a miss in table {at}");
-        };
-        replay(&table, task, &run);
+        let table = must_miss(rule, STATED, 62);
+        // A chain longer than D has a negative margin but on one processor.
+        assert!(rule != Rule::SharpNo22 || table.m == 1);
     }
+}
+
+/// A step that takes one tick more than its cost is what no yes covers.
+#[test]
+fn a_step_that_ends_late_misses() {
+    for rule in [Rule::Verdict, Rule::Sharp] {
+        let times = Times::Late;
+        must_miss(rule, How { times, ..STATED }, 65);
+    }
+}
+
+/// The first table that misses, its run played again.
+fn must_miss(rule: Rule, how: How, seed: u64) -> Table {
+    let (at, wrong) = first_wrong(rule, how, seed, 4_000);
+    let (table, found) = wrong.unwrap_or_else(|| panic!("{rule:?}: no miss in {at} tables"));
+    let Some((Wrong::Miss(task), run)) = found.wrong else {
+        panic!("{rule:?}: not a miss in table {at}");
+    };
+    replay(&table, how, task, &run);
+    table
 }
 
 /// Seen, not promised: among these tables the least margins from 1 - m on
@@ -59,7 +88,7 @@ fn the_first_margin_that_misses_is_minus_m() {
         let margins = (0..usize::from(table.n)).map(|k| figures(table, k).margin);
         let below = -margins.min().unwrap();
         if (1..=i64::from(table.m)).contains(&below) {
-            let found = explore(table, &mut seen);
+            let found = explore(table, STATED, &mut seen);
             let at = (usize::from(table.m), below as usize);
             looked[at.0][at.1] += 1;
             missed[at.0][at.1] += u32::from(found.wrong.is_some());
@@ -76,12 +105,18 @@ fn the_first_margin_that_misses_is_minus_m() {
 
 /// Plays a run step by step from another clock: legal throughout, and the
 /// miss comes in the last step only.
-fn replay(table: &Table, task: u8, run: &[Step]) {
+fn replay(table: &Table, how: How, task: u8, run: &[Step]) {
     let mut state = State::zeros(77, Phase::Running);
     for (at, step) in run.iter().enumerate() {
-        assert!(fits(table, &state));
+        assert!(how.times != Times::Stated || fits(table, &state));
         assert!(release_sets(table, &state).any(|set| set == step.releases));
-        let released = release(table, &state, step.releases);
+        let mut released = release(table, &state, step.releases);
+        for ((i, h), ticks) in &step.off_cost {
+            let (i, h) = (usize::from(*i), usize::from(*h));
+            assert!((1..=how.times.most(table.costs[16 * i + h])).contains(ticks));
+            released.remaining[16 * i + h] = *ticks;
+            released.work[i] = summed(sixteen(&released.remaining, i));
+        }
         assert!(is_legal(table, &released, &step.ran));
         let moved = go_on(table, &released, step.releases, &step.ran);
         let last = at + 1 == run.len();
@@ -96,12 +131,36 @@ fn packing_goes_both_ways() {
     for _ in 0..5_000 {
         let table = tiny_table(r, true);
         let state = reached(r, &table, 12);
-        let back = unpack(pack(&state));
-        assert_eq!(pack(&back), pack(&state));
+        let packing = Packing::of(&table, Times::Stated).unwrap();
+        let back = packing.unpack(packing.pack(&state));
+        assert_eq!(packing.pack(&back), packing.pack(&state));
         assert_eq!(fits(&table, &back), fits(&table, &state));
         assert_eq!(back.remaining, state.remaining);
         assert_eq!(back.work, state.work);
     }
+}
+
+#[test]
+fn what_does_not_go_into_64_bits_is_not_packed() {
+    let r = &mut Random::new(66);
+    assert!(Packing::of(&largest_table(r), Times::Stated).is_none());
+}
+
+/// The explorer asks the document's sum, the verdict its closed form.
+#[test]
+fn the_rule_is_the_verdict() {
+    let r = &mut Random::new(67);
+    let mut yes = 0;
+    for _ in 0..20_000 {
+        let table = tiny_table(r, true);
+        let said = accepts(Rule::Sharp, &table);
+        assert_eq!(said, judge_sharp(&table).number == 0);
+        yes += u32::from(said);
+        let table = tiny_fork(r, |table| accepts(Rule::Sharp, table));
+        let said = accepts(Rule::Sharp, &table);
+        assert_eq!(said, judge_sharp(&table).number == 0);
+    }
+    assert!(yes > 2_000, "{yes}");
 }
 
 #[test]
@@ -129,7 +188,7 @@ fn all_very_small_tables() {
         count += 1;
         if accepts(Rule::Verdict, table) {
             accepted += 1;
-            assert_eq!(explore(table, &mut seen).wrong, None);
+            assert_eq!(explore(table, STATED, &mut seen).wrong, None);
         }
         true
     });

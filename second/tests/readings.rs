@@ -303,7 +303,7 @@ fn d22_accepted_tables_have_no_miss_and_no_chain_too_long() {
     while explored < 1_000 {
         let table = tiny_table(r, true);
         if verdict(&file(&table)).number == 0 {
-            let found = explore::explore(&table, &mut seen);
+            let found = explore::explore(&table, explore::STATED, &mut seen);
             assert_eq!((found.wrong, found.chains_too_long), (None, 0));
             explored += 1;
         }

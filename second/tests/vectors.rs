@@ -1,9 +1,11 @@
 //! The recorded vectors: streams go both ways, all numbers are there.
 
 use second::random::*;
+use second::sharp::SHARP;
 use second::sum::*;
 use second::table::{Table, LARGEST};
 use second::vectors::*;
+use second::verdict::OLD;
 
 fn numbers(answers: &[Expected]) -> [u32; 11] {
     let mut counts = [0; 11];
@@ -86,7 +88,8 @@ fn checksums() {
 fn cases_for_the_verdict() {
     let cases = verdict_cases(1);
     let stream = verdict_stream(&cases);
-    let answers = answer_verdicts(&stream).unwrap();
+    let both = answer_verdicts(&stream).unwrap();
+    let answers: Vec<_> = both.iter().map(|both| both.old).collect();
     assert_eq!(answers.len(), cases.len());
     assert!(stream.len() < 150_000 && cases.len() > 3_000);
     let of = |number| answers.iter().filter(move |a| a.verdict.number == number);
@@ -106,18 +109,50 @@ fn cases_for_the_verdict() {
     assert_eq!(margins().min(), Some(-240_000_120_000_000));
     assert_eq!(margins().max(), Some(8_000_000));
     for (case, answer) in cases.iter().zip(&answers) {
-        assert_eq!(judged(case), *answer);
+        assert_eq!(judged(&OLD, case), *answer);
     }
     assert_eq!(answer_verdicts(&stream[..stream.len() - 1]), None);
-    let first = verdict_text(&answers[..2]);
+    let first = verdict_text(&both[..2]);
     assert_eq!(
         first,
-        "1 0 255 0 0 906459637 18 1653696668\n0 0 1 0 1 4230643882 122 3893237434\n"
+        "1 0 255 0 0 906459637 18 1653696668\n".repeat(2)
+            + &"0 0 1 0 1 4230643882 122 3893237434\n".repeat(2)
     );
     let chains = || answers.iter().map(|a| a.verdict.chain.count);
     for count in [0, 1, 2, 3, 4, 16] {
         assert!(chains().any(|c| c == count), "a chain of {count}");
     }
+}
+
+#[test]
+fn cases_for_the_sharp_verdict() {
+    let cases = sharp_cases(1);
+    let stream = verdict_stream(&cases);
+    let both = answer_verdicts(&stream).unwrap();
+    let answers: Vec<_> = both.iter().map(|both| both.sharp).collect();
+    assert_eq!(answers.len(), cases.len());
+    assert!(cases.len() > 1_400);
+    let of = |number| answers.iter().filter(move |a| a.verdict.number == number);
+    for number in [0, 22, 23] {
+        assert!(of(number).count() > 300, "number {number}");
+        assert!((0..16).all(|task| of(number).any(|a| a.verdict.task == task)));
+        let near = of(number).filter(|a| a.verdict.margin.abs() < 10);
+        assert!(near.count() > 60, "number {number}");
+    }
+    for number in 1..=8 {
+        assert!(of(number).count() > 8, "number {number}");
+    }
+    assert!(of(22).any(|a| a.verdict.margin == 0));
+    let margins = || answers.iter().map(|a| a.verdict.margin);
+    assert_eq!(margins().min(), Some(-120_000_225_000_000));
+    assert_eq!(margins().max(), Some(8_000_000));
+    let pairs = cases.iter().zip(&answers);
+    let apart = pairs.filter(|(case, answer)| {
+        assert_eq!(judged(&SHARP, case), **answer);
+        answer.verdict.number == 0 && second::verdict(case).number == 20
+    });
+    let apart = apart.count();
+    assert!(apart > 200, "{apart}");
 }
 
 #[test]

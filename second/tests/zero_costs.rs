@@ -2,7 +2,7 @@
 //! one, with the readings D49 to D52 of docs/DECISIONS.md.
 
 use second::examples::{plain_task, table_marks, TABLE_A};
-use second::explore::{explore_by, runs_early, small_tables, KeySet, Wrong};
+use second::explore::{explore, runs_early, small_tables, How, KeySet, Wrong, STATED};
 use second::judge::{judge, put_row};
 use second::machine::*;
 use second::random::*;
@@ -278,9 +278,13 @@ fn such_states_come_up() {
 #[test]
 fn availability_by_what_remains_runs_too_early() {
     let mut seen = KeySet::new();
+    let how = How {
+        held: held_by_remaining,
+        ..STATED
+    };
     let (mut early, mut table_at) = (None, None);
     small_tables(2, |table| {
-        let found = explore_by(table, held_by_remaining, &mut seen);
+        let found = explore(table, how, &mut seen);
         if let (Some((Wrong::Early(task), run)), true) =
             (&found.wrong, verdict(&file(table)).number == 0)
         {

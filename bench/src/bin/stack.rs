@@ -4,7 +4,7 @@
 //! tables and states by pointer, are measured on the same inputs.
 
 use bench::plain;
-use compare::{face, judging, reading, ticking, writing};
+use compare::{face, judging, reading, sharply, ticking, writing};
 use second::random::{busy_table, file, journal, largest_table, Random};
 use second::table::LARGEST;
 use std::mem::size_of;
@@ -105,13 +105,22 @@ fn write(r: &mut Random, k: u64) -> Both {
 }
 
 fn verdict(r: &mut Random, k: u64) -> Both {
-    let bytes = judged(r, k);
+    let entry = face::entry::mt_verdict as *const ();
+    let plain = plain::entry::plain_verdict as *const ();
+    verdict_of(&judged(r, k), [entry, plain])
+}
+
+fn sharp(r: &mut Random, k: u64) -> Both {
+    let entry = face::entry::mt_sharp as *const ();
+    let plain = plain::entry::plain_sharp as *const ();
+    verdict_of(&sharply_judged(r, k), [entry, plain])
+}
+
+/// Both sides' function for a verdict.
+fn verdict_of(bytes: &[u8], sides: [*const (); 2]) -> Both {
     let (_answer, to) = room::<face::VerdictAnswer>();
     let words = [to, bytes.as_ptr() as usize, bytes.len(), 0, 0, 0];
-    [
-        taken(face::entry::mt_verdict as *const (), words, ()),
-        taken(plain::entry::plain_verdict as *const (), words, ()),
-    ]
+    sides.map(|entry| taken(entry, words, ()))
 }
 
 /// Plain C has no quick answer: its whole verdict stands beside.
@@ -128,21 +137,38 @@ fn quick(r: &mut Random, k: u64) -> Both {
 }
 
 fn report(r: &mut Random, k: u64) -> Both {
-    let bytes = judged(r, k);
+    let entry = face::entry::mt_report as *const ();
+    let plain = plain::entry::plain_report as *const ();
+    report_of(&judged(r, k), [entry, plain])
+}
+
+fn sharp_report(r: &mut Random, k: u64) -> Both {
+    let entry = face::entry::mt_sharp_report as *const ();
+    let plain = plain::entry::plain_sharp_report as *const ();
+    report_of(&sharply_judged(r, k), [entry, plain])
+}
+
+/// Both sides' function for a report.
+fn report_of(bytes: &[u8], sides: [*const (); 2]) -> Both {
     let mut buffer = [0u8; face::REPORT_MOST];
     let to = buffer.as_mut_ptr() as usize;
     let from = bytes.as_ptr() as usize;
     let words = [from, bytes.len(), to, face::REPORT_MOST, 0, 0];
-    [
-        taken(face::entry::mt_report as *const (), words, ()),
-        taken(plain::entry::plain_report as *const (), words, ()),
-    ]
+    sides.map(|entry| taken(entry, words, ()))
 }
 
 fn judged(r: &mut Random, k: u64) -> Vec<u8> {
     match k {
         0 => file(&largest_table(r)),
         _ => judging::input(r),
+    }
+}
+
+/// The first has the longest chain of descents: sixteen vertices and every edge.
+fn sharply_judged(r: &mut Random, k: u64) -> Vec<u8> {
+    match k {
+        0 => file(&largest_table(r)),
+        _ => sharply::input(r),
     }
 }
 
@@ -202,12 +228,12 @@ fn line(name: &str, one: fn(&mut Random, u64) -> Both, beside: &str) {
         0 => String::from("-"),
         bytes => bytes.to_string(),
     };
-    println!("{name:<10}{ours:>8}{theirs:>10}{beside}");
+    println!("{name:<16}{ours:>8}{theirs:>10}{beside}");
 }
 
 fn main() {
     println!("the stack of a function in bytes: run on one painted with a pattern, the most that changed over {INPUTS} inputs");
-    println!("{:<10}{:>8}{:>10}", "", "ours", "plain C");
+    println!("{:<16}{:>8}{:>10}", "", "ours", "plain C");
     let put = |size: usize, what: &str| {
         format!("   and {size} for the {what}, which its caller puts there")
     };
@@ -216,6 +242,8 @@ fn main() {
     line("mt_verdict", verdict, "");
     line("mt_quick", quick, "   (plain C: the whole verdict)");
     line("mt_report", report, "");
+    line("mt_sharp", sharp, "");
+    line("mt_sharp_report", sharp_report, "");
     line("mt_open", open, "");
     line("mt_tick", tick, &put(size_of::<face::State>(), "state"));
     line("mt_judge", judge, "");

@@ -3,8 +3,11 @@ pub mod Computed
 pub mod Later
 pub mod Lines
 pub mod Marks
+pub mod Sharp
 -- Demand 3 is not empty.
 pub mod Tests
 pub mod Witness
--- Files that reach both ends of the margin's range.
+pub mod Early
+-- Files that reach both ends of the margins' ranges.
 pub mod Ends
+pub mod SharpEnds

@@ -6,7 +6,7 @@ use Prim.Native.Nat.{ℕ, zero, suc, _+_, _/_, _%_, _^_, _≤_, _<_, min}
 use native.Mathlib.Omega.{arith}
 use native.Mathlib.Decide.{ℕ-discrete, decLt}
 use native.Mathlib.Nat.{zero-div}
-use lib.ListN.{length}
+use lib.ListN.{length, getD}
 use lib.Dec.{ltb, leb, eqb}
 use borrow.Author.Tests.{lt-ltb, ltb-true, leb-true, eqb-true, not-true, ne-eqb}
 use Rattle.graph.specs.Words.{pick, bit, all, isIn, Distinct}
@@ -17,7 +17,7 @@ use Rattle.machine.specs.declared.State.{State}
 use Rattle.machine.specs.States.{left}
 use Rattle.machine.specs.Steps.{released, availables, Legal}
 use Rattle.promise.proofs.Cases.{open-bit}
-use Rattle.promise.specs.Demand3.{tableOf, tickAt, stateAt, midAt, Sporadic}
+use Rattle.promise.specs.Runs.{tableOf, Plan, Sporadic, taking, Kind, Drawn, tickAt, stateAt, midAt, LegalBefore}
 
 -- ---- each number of a list passes a test
 unfoldable pub every : (ℕ → Bool) → List ℕ → Bool
@@ -71,15 +71,29 @@ is-legal t st chosen h =
           (every-at _ chosen (or-second (isIn x chosen) _ (every-at _ (availables t st) (a .1) x i) o) y j);
     }
 
+-- ---- times that are drawn within the costs: of each what costs any takes at least one
+unfoldable pub drawnTest : List ℕ → List ℕ → Bool
+drawnTest costs times = all 256 (λ k. leb (getD times k 0) (getD costs k 0) && leb (min 1 (getD costs k 0)) (getD times k 0))
+
+pub is-drawn : (t : Table) (times : List ℕ) → drawnTest (t .costs) times ≡ true → Drawn t times
+unfolding drawnTest
+is-drawn t times h = record {
+  most = λ k b. leb-true _ _ (each k b .0);
+  least = λ k b l. let z = leb-true (min 1 (getD (t .costs) k 0)) (getD times k 0) (each k b .1) in omega arith;
+}
+  where
+    each : (k : ℕ) → k < 256 → (leb (getD times k 0) (getD (t .costs) k 0) ≡ true) × (leb (min 1 (getD (t .costs) k 0)) (getD times k 0) ≡ true)
+    each k b = both-true (leb (getD times k 0) (getD (t .costs) k 0)) _ (all-at 256 _ h k b)
+
 -- ---- a run whose choices are all legal
-module _ (file : List ℕ) (clock : ℕ) (rel : ℕ → ℕ) (choice : ℕ → List ℕ) where
+module _ (kind : Kind) (file : List ℕ) (clock : ℕ) (plan : Plan) where
   -- from tick x on, k ticks; t is the file's table
   unfoldable pub walk : Table → ℕ → ℕ → State → Bool
   walk t zero x st = true
-  walk t (suc k) x st = legalTest t (released t st (rel x)) (choice x) && walk t k (suc x) (tickAt file clock rel choice x st .state)
+  walk t (suc k) x st = legalTest t (released (taking t (plan .times x)) st (plan .rel x)) (plan .choice x) && walk t k (suc x) (tickAt kind file clock plan x st .state)
 
-  walked : (k x : ℕ) → walk (tableOf file) k x (stateAt file clock rel choice x) ≡ true → (y : ℕ) → x ≤ y → y < x + k
-      → legalTest (tableOf file) (midAt file clock rel choice y) (choice y) ≡ true
+  walked : (k x : ℕ) → walk (tableOf file) k x (stateAt kind file clock plan x) ≡ true → (y : ℕ) → x ≤ y → y < x + k
+      → legalTest (tableOf file) (midAt kind file clock plan y) (plan .choice y) ≡ true
   unfolding walk stateAt midAt
   walked zero x h y l u = absurd (omega arith)
   walked (suc k) x h y l u =
@@ -89,8 +103,8 @@ module _ (file : List ℕ) (clock : ℕ) (rel : ℕ → ℕ) (choice : ℕ → L
         | no e ↦ walked k (suc x) (r .1) y (omega arith) (omega arith)
       ]
 
-  pub all-legal : (N : ℕ) → walk (tableOf file) N 0 (stateAt file clock rel choice 0) ≡ true → (x : ℕ) → x < N → Legal (tableOf file) (midAt file clock rel choice x) (choice x)
-  all-legal N h x b = is-legal (tableOf file) (midAt file clock rel choice x) (choice x) (walked N 0 h x (omega arith) (omega arith))
+  pub all-legal : (N : ℕ) → walk (tableOf file) N 0 (stateAt kind file clock plan 0) ≡ true → LegalBefore kind file clock plan N
+  all-legal N h x b = is-legal (tableOf file) (midAt kind file clock plan x) (plan .choice x) (walked N 0 h x (omega arith) (omega arith))
 
 -- ---- releases that are spaced, none from tick N on
 module _ (t : Table) (rel : ℕ → ℕ) (N : ℕ) where
@@ -115,11 +129,11 @@ module _ (t : Table) (rel : ℕ → ℕ) (N : ℕ) where
   unfolding bit
   no-bit i = let z = zero-div (2 ^ i) in ne-eqb (0 / 2 ^ i % 2) 1 (λ e. absurd (omega arith))
 
-  pub is-sporadic : ((x : ℕ) → N ≤ x → rel x ≡ 0) → spacedTest ≡ true → Sporadic t rel
+  pub is-sporadic : ((x : ℕ) → N ≤ x → rel x ≡ 0) → spacedTest ≡ true → (M : ℕ) → Sporadic t rel M
   unfolding spacedTest namesTasks apartAt
-  is-sporadic none h = record {
-    tasks = below;
-    apart = λ i x y l e f. leb-true _ _ (not-or _ _ (all-at N _ (all-at N _ (all-at (t .n) _ (r .1) i (below x i e)) x (early x i e)) y (early y i f))
+  is-sporadic none h M = record {
+    tasks = λ x i _ e. below x i e;
+    apart = λ i x y l _ e f. leb-true _ _ (not-or _ _ (all-at N _ (all-at N _ (all-at (t .n) _ (r .1) i (below x i e)) x (early x i e)) y (early y i f))
         (all-three _ _ _ (lt-ltb x y l) e f));
   }
     where

@@ -2,7 +2,7 @@
 use mathlib.Core.Path.{_≡_, refl}
 use mathlib.Core.Bool.{true, false}
 use mathlib.Core.List.{_++_}
-use Prim.Native.Nat.{ℕ, _+_, _^_, _≤_, _<_}
+use Prim.Native.Nat.{ℕ, suc, _+_, _^_, _≤_}
 use native.Mathlib.Omega.{arith}
 use lib.ListN.{length, take}
 use lib.Dec.{T, leb, ltb, ltb→lt}
@@ -18,20 +18,21 @@ use Rattle.table.specs.Writing.{bytes4}
 use Rattle.verdict.specs.Verdicts.{vol, len, roundedUp, due, margin, naming, verdictOn, unread, verdictRead, verdict}
 use Rattle.machine.specs.States.{idle, activity, isLive, waitOf, deadlineOf, live, wait, deadline, remaining, workOf, wrap, ticksLeft, left, zeros, unopened, openRead, opening}
 use Rattle.machine.specs.Fitting.{clear, nothingLeft, workAgrees, zeroTaskIn, withinCost, wholeBehind, fitsLive, fitsIdle, fitsTask, fitsPhase, fits}
-use Rattle.machine.specs.Steps.{released, available, availables, before, insert, ranked, ownChoice, Legal, withWait, runOf, worked, finishes, ended, finished, missed}
+use Rattle.machine.specs.Steps.{released, available, availables, before, insert, ranked, ownChoice, withWait, runOf, worked, finishes, ended, finished, missed}
 use Rattle.machine.specs.Ticking.{nobody, pairOf, runList, ticked, judged, advanceTo, advance, refuse, whenRunning, tickOn, tickRead, tickBy, tick}
 use Rattle.graph.specs.Words.{flag}
 use Rattle.graph.proofs.Facts.{past-end, all-at}
 use Rattle.examples.specs.Examples.{fileA}
-use Rattle.promise.specs.Demand3.{tableOf, tickAt, stateAt, midAt, Sporadic}
-use Rattle.examples.specs.Witness.{someClock, roundReleases, roundChoices, someReleases, someChoices, availableAt, ownAt, Witness}
-use Rattle.promise.proofs.Holds.{demand3}
+use Rattle.promise.specs.Runs.{tableOf, Sporadic, taking, stated, tickAt, stateAt, midAt, answerAt, LegalBefore}
+use Rattle.promise.specs.Demand3.{Kept, none}
+use Rattle.examples.specs.Witness.{someClock, roundReleases, roundChoices, someReleases, someChoices, somePlan, availableAt, ownAt, Witness}
+use Rattle.promise.proofs.Holds.{demand3-old}
 use Rattle.examples.proofs.Tests.{every, distinct, legalAmong, legalTest, walk, all-legal, namesTasks, apartAt, spacedTest, is-sporadic}
 
 -- all that is computed of the run: each choice is legal, releases are spaced, the verdict, how often each task is released,
 -- a vertex that is passed over, and one that the machine would have chosen
 record Computed : Type 0 where
-  walks : walk fileA someClock someReleases someChoices (tableOf fileA) 30 0 (stateAt fileA someClock someReleases someChoices 0) ≡ true
+  walks : walk stated fileA someClock somePlan (tableOf fileA) 30 0 (stateAt stated fileA someClock somePlan 0) ≡ true
   spaced : spacedTest (tableOf fileA) someReleases 30 ≡ true
   accepted : verdict fileA .number ≡ 0
   tight : verdict fileA .margin ≡ pos 0
@@ -43,7 +44,7 @@ record Computed : Type 0 where
   otherwise : (isIn 16 (ownAt 6) ≡ true) × (isIn 16 (someChoices 6) ≡ false)
 
 computed : Computed
-unfolding bit sum all rowFrom row largest alsoIf those thoseBelow lowest isIn anyOf isNone setOf joinFrom inOrder firstOr lowestOr edge ledTo sweep sweeps acyclicAmong acyclic doneWithin done oneMore longestFrom maximum longest noSucc noCosts zeroTask noTasks noRow noTable noTask task vertices D Memory.T succ edgeIn cost number place field markAt ranged byteAt value4 ticksAt notUnder periodAt edgeOk edgeAt costsAt addEdge edgesAt badTask partsAt taskAt putCosts badTable withTask tasksAt tableAt refused ending read bytes4 vol len roundedUp due margin naming verdictOn unread verdictRead verdict idle activity isLive waitOf deadlineOf live wait deadline remaining workOf wrap ticksLeft left zeros unopened openRead opening clear nothingLeft workAgrees zeroTaskIn withinCost wholeBehind fitsLive fitsIdle fitsTask fitsPhase fits released available availables before insert ranked ownChoice withWait runOf worked finishes ended finished missed nobody pairOf runList ticked judged advanceTo advance refuse whenRunning tickOn tickRead tickBy tick fileA flag tableOf tickAt stateAt midAt someClock roundReleases roundChoices someReleases someChoices every distinct legalAmong legalTest walk namesTasks apartAt spacedTest
+unfolding bit sum all rowFrom row largest alsoIf those thoseBelow lowest isIn anyOf isNone setOf joinFrom inOrder firstOr lowestOr edge ledTo sweep sweeps acyclicAmong acyclic doneWithin done oneMore longestFrom maximum longest noSucc noCosts zeroTask noTasks noRow noTable noTask task vertices D Memory.T succ edgeIn cost number place field markAt ranged byteAt value4 ticksAt notUnder periodAt edgeOk edgeAt costsAt addEdge edgesAt badTask partsAt taskAt putCosts badTable withTask tasksAt tableAt refused ending read bytes4 vol len roundedUp due margin naming verdictOn unread verdictRead verdict idle activity isLive waitOf deadlineOf live wait deadline remaining workOf wrap ticksLeft left zeros unopened openRead opening clear nothingLeft workAgrees zeroTaskIn withinCost wholeBehind fitsLive fitsIdle fitsTask fitsPhase fits released available availables before insert ranked ownChoice withWait runOf worked finishes ended finished missed nobody pairOf runList ticked judged advanceTo advance refuse whenRunning tickOn tickRead tickBy tick fileA flag tableOf taking tickAt stateAt midAt someClock roundReleases roundChoices someReleases someChoices somePlan every distinct legalAmong legalTest walk namesTasks apartAt spacedTest
 computed = record {
   walks = refl;
   spaced = refl;
@@ -63,12 +64,13 @@ unfolding someReleases
 none-later x h = past-end (roundReleases ++ roundReleases ++ take 4 roundReleases) x 0 (omega (arith, computed .many))
 
 pub witness : Witness
+unfolding somePlan
 witness = record {
   accepted = computed .accepted;
   small = ltb→lt someClock (2 ^ 32) (computed .small);
   sporadic = sporadic;
   legal = legal;
-  kept = demand3 fileA (computed .accepted) someClock (ltb→lt someClock (2 ^ 32) (computed .small)) someReleases sporadic someChoices 30 legal;
+  kept = kept;
   tight = computed .tight;
   wraps = ltb→lt (2 ^ 32) (someClock + 30) (computed .wraps);
   often = λ i b. leb-true 3 _ (all-at (tableOf fileA .n) _ (computed .often) i b);
@@ -76,8 +78,11 @@ witness = record {
   otherwise = computed .otherwise;
 }
   where
-    sporadic : Sporadic (tableOf fileA) someReleases
+    sporadic : (N : ℕ) → Sporadic (tableOf fileA) someReleases N
     sporadic = is-sporadic (tableOf fileA) someReleases 30 none-later (computed .spaced)
 
-    legal : (x : ℕ) → x < 30 → Legal (tableOf fileA) (midAt fileA someClock someReleases someChoices x) (someChoices x)
-    legal = all-legal fileA someClock someReleases someChoices 30 (computed .walks)
+    legal : LegalBefore stated fileA someClock somePlan 30
+    legal = all-legal stated fileA someClock somePlan 30 (computed .walks)
+
+    kept : (x : ℕ) → x ≤ 30 → Kept (tableOf fileA) (none (tableOf fileA)) someReleases (midAt stated fileA someClock somePlan) (answerAt stated fileA someClock somePlan) x
+    kept x b = demand3-old fileA (computed .accepted) someClock (ltb→lt someClock (2 ^ 32) (computed .small)) somePlan x (sporadic (suc x)) (λ y l. refl) (λ y l. legal y (omega arith))

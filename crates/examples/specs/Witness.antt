@@ -8,8 +8,9 @@ use lib.ListN.{getD, take}
 use lib.IntN.{pos}
 use Rattle.graph.specs.Words.{bit, sum, flag, isIn}
 use Rattle.verdict.specs.Verdicts.{verdict}
-use Rattle.machine.specs.Steps.{availables, ownChoice, Legal}
-use Rattle.promise.specs.Demand3.{tableOf, tickAt, stateAt, midAt, Sporadic, Kept}
+use Rattle.machine.specs.Steps.{availables, ownChoice}
+use Rattle.promise.specs.Runs.{tableOf, Plan, Sporadic, stated, midAt, answerAt, LegalBefore}
+use Rattle.promise.specs.Demand3.{Kept, OldAccepts, none}
 use Rattle.examples.specs.Examples.{fileA}
 
 -- six ticks before the clock's round is full
@@ -33,21 +34,24 @@ someReleases x = getD (roundReleases ++ roundReleases ++ take 4 roundReleases) x
 unfoldable pub someChoices : ℕ → List ℕ
 someChoices x = getD (roundChoices ++ roundChoices ++ take 4 roundChoices) x []
 
+unfoldable pub somePlan : Plan
+somePlan = record { rel = someReleases; times = λ x. tableOf fileA .costs; choice = someChoices }
+
 -- the vertices available within tick x, and what the machine itself would choose
 abbrev pub availableAt : ℕ → List ℕ
-availableAt x = availables (tableOf fileA) (midAt fileA someClock someReleases someChoices x)
+availableAt x = availables (tableOf fileA) (midAt stated fileA someClock somePlan x)
 
 abbrev pub ownAt : ℕ → List ℕ
-ownAt x = ownChoice (tableOf fileA) (midAt fileA someClock someReleases someChoices x)
+ownAt x = ownChoice (tableOf fileA) (midAt stated fileA someClock somePlan x)
 
 pub record Witness : Type 0 where
   -- what the demand asks: an accepted file, a clock, releases that are spaced, and legal choices
-  pub accepted : verdict fileA .number ≡ 0
+  pub accepted : OldAccepts fileA
   pub small : someClock < 2 ^ 32
-  pub sporadic : Sporadic (tableOf fileA) someReleases
-  pub legal : (x : ℕ) → x < 30 → Legal (tableOf fileA) (midAt fileA someClock someReleases someChoices x) (someChoices x)
+  pub sporadic : (N : ℕ) → Sporadic (tableOf fileA) someReleases N
+  pub legal : LegalBefore stated fileA someClock somePlan 30
   -- what it promises
-  pub kept : (x : ℕ) → x < 30 → Kept (tableOf fileA) (tickAt fileA someClock someReleases someChoices x (stateAt fileA someClock someReleases someChoices x)) (midAt fileA someClock someReleases someChoices x)
+  pub kept : (x : ℕ) → x ≤ 30 → Kept (tableOf fileA) (none (tableOf fileA)) someReleases (midAt stated fileA someClock somePlan) (answerAt stated fileA someClock somePlan) x
   -- that it is no idle run: the margin is 0, the clock wraps, each task is released three times or more
   pub tight : verdict fileA .margin ≡ pos 0
   pub wraps : 2 ^ 32 < someClock + 30

@@ -4,7 +4,7 @@ use mathlib.Core.List.{List}
 use Prim.Native.Nat.{ℕ}
 use lib.IntN.{ℤ}
 use Rattle.graph.specs.Words.{pick}
-use Rattle.panel.specs.Answers.{readAnswer, writeAnswer, verdictFace, verdictAnswer, rulingFace, rulingAnswer}
+use Rattle.panel.specs.Answers.{readAnswer, writeAnswer, verdictFace, rulingFace, rulingAnswer}
 use Rattle.table.specs.declared.Loaded.{Loaded}
 use Rattle.table.specs.declared.Table.{Table}
 use Rattle.table.specs.declared.Written.{Written}
@@ -12,7 +12,6 @@ use Rattle.table.specs.Numbers.{number, place, writingNumber, writingPlace}
 use Rattle.table.specs.Reading.{read}
 use Rattle.table.specs.Writing.{writing}
 use Rattle.verdict.specs.declared.Verdict.{Verdict}
-use Rattle.verdict.specs.Verdicts.{verdict}
 use Rattle.journal.specs.declared.Ruling.{Ruling}
 use Rattle.journal.specs.Judging.{judge}
 
@@ -25,9 +24,9 @@ unfolding writeAnswer
 answers-write t room w n p is-written is-number is-place = rw is-number (rw is-place (rw is-written refl))
 
 -- z is the margin as the machine reads it back from its bits
-pub answers-verdict : (s : List ℕ) (v : Verdict) (z : ℤ) → v ≡ verdict s → z ≡ v .margin → verdictAnswer s ≡ record { number = v .number; task = v .task; place = v .place; margin = z; count = v .count; chain = v .chain }
-unfolding verdictAnswer verdictFace
-answers-verdict s v z is-verdict is-margin = rw is-margin (rw is-verdict refl)
+pub faces-verdict : (v : Verdict) (z : ℤ) → z ≡ v .margin → (record { number = v .number; task = v .task; place = v .place; margin = z; count = v .count; chain = v .chain }) ≡ verdictFace v
+unfolding verdictFace
+faces-verdict v z e = rw e refl
 
 pub answers-ruling : (s j : List ℕ) (r : Ruling) (m : ℕ) → r ≡ judge s j → m ≡ pick (r .missed) 1 0
     → rulingAnswer s j ≡ record { number = r .number; missed = m; place = r .place; row = r .row; rows = r .rows }

@@ -23,6 +23,10 @@ use Rattle.panel.proofs.verdicts.mt_quick.Kinds as mt-quick-kinds
 use Rattle.panel.proofs.verdicts.mt_quick.Reads as mt-quick-reads
 use Rattle.panel.proofs.verdicts.mt_report.Kinds as mt-report-kinds
 use Rattle.panel.proofs.verdicts.mt_report.Reads as mt-report-reads
+use Rattle.panel.proofs.verdicts.mt_sharp.Kinds as mt-sharp-kinds
+use Rattle.panel.proofs.verdicts.mt_sharp.Reads as mt-sharp-reads
+use Rattle.panel.proofs.verdicts.mt_sharp_report.Kinds as mt-sharp-report-kinds
+use Rattle.panel.proofs.verdicts.mt_sharp_report.Reads as mt-sharp-report-reads
 use Rattle.panel.proofs.judging.mt_judge.Kinds as mt-judge-kinds
 use Rattle.panel.proofs.judging.mt_judge.Reads as mt-judge-reads
 
@@ -43,6 +47,13 @@ mt-quick-one κs args x y s t = by-definition
 module _ (κs : Lfts 2) (args : Dens κs mt-report-kinds.ps) (s t : AtExit (endedOf 2 mt-report-kinds.ps mt-report-kinds.r) κs) where
   pub mt-report-one : (x y : ℕ) → mt-report-reads.Post κs args x s → mt-report-reads.Post κs args y t → (x ≡ y) × (now (s .1 .0) ≡ now (t .1 .0))
   mt-report-one x y p q = (by-definition (p .0) (q .0), by-definition (p .1) (q .1))
+
+pub mt-sharp-one : OneResult 1 mt-sharp-kinds.ps mt-sharp-kinds.r mt-sharp-reads.Post
+mt-sharp-one κs args x y s t = by-definition
+
+module _ (κs : Lfts 2) (args : Dens κs mt-sharp-report-kinds.ps) (s t : AtExit (endedOf 2 mt-sharp-report-kinds.ps mt-sharp-report-kinds.r) κs) where
+  pub mt-sharp-report-one : (x y : ℕ) → mt-sharp-report-reads.Post κs args x s → mt-sharp-report-reads.Post κs args y t → (x ≡ y) × (now (s .1 .0) ≡ now (t .1 .0))
+  mt-sharp-report-one x y p q = (by-definition (p .0) (q .0), by-definition (p .1) (q .1))
 
 pub mt-open-one : OneResult 1 mt-open-kinds.ps mt-open-kinds.r mt-open-reads.Post
 mt-open-one κs args x y s t = by-definition

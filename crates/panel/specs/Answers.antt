@@ -20,7 +20,6 @@ use Rattle.table.specs.Numbers.{number, place, writingNumber, writingPlace}
 use Rattle.table.specs.Reading.{whenRead, read}
 use Rattle.table.specs.Writing.{writing}
 use Rattle.verdict.specs.declared.Verdict.{Verdict}
-use Rattle.verdict.specs.Verdicts.{verdict}
 use Rattle.journal.specs.declared.Ruling.{Ruling}
 use Rattle.journal.specs.Judging.{judge}
 
@@ -33,12 +32,9 @@ unfoldable pub writeAnswer : Table → ℕ → WriteAnswer
 writeAnswer t room = record { number = writingNumber (writing t room); place = writingPlace (writing t room) }
 
 -- "The verdict takes a file's bytes." Its number and place, "the answer is the lowest such task and its margin"; M-102: "The
--- verdict hands on the chain of the task it names"
+-- verdict hands on the chain of the task it names". The sharp verdict of M-107 crosses in the same way.
 unfoldable pub verdictFace : Verdict → VerdictAnswer
 verdictFace v = record { number = v .number; task = v .task; place = v .place; margin = v .margin; count = v .count; chain = v .chain }
-
-unfoldable pub verdictAnswer : List ℕ → VerdictAnswer
-verdictAnswer s = verdictFace (verdict s)
 
 -- "Each answer, opening's too, has a number, a place and a task"; "all tasks are idle with wait 0"
 unfoldable pub openedFace : Opened → OpenAnswer

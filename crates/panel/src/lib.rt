@@ -12,6 +12,8 @@ pub use ticks::mt_open;
 pub use ticks::mt_tick;
 pub use verdicts::mt_quick;
 pub use verdicts::mt_report;
+pub use verdicts::mt_sharp;
+pub use verdicts::mt_sharp_report;
 pub use verdicts::mt_verdict;
 
 // Reading's number, place and table.

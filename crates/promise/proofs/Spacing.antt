@@ -1,12 +1,12 @@
--- Spacing in true time, proved: a wait is T minus 1 after a release and falls by one each tick, which takes no release tick and no clock.
+-- SPACING IN TRUE TIME, proved: a wait is T minus 1 after a release and falls by one each tick, which takes no release tick and no clock.
 use mathlib.Core.Path.{_≡_, refl, sym, ap, subst, _∙_}
 use mathlib.Core.Logic.{_⊎_, ⊎-elim}
 use mathlib.Core.Bool.{Bool, true, false}
 use mathlib.Core.List.{List}
-use Prim.Native.Nat.{ℕ, zero, suc, _+_, _-_, _≤_, _<_}
+use Prim.Native.Nat.{ℕ, zero, suc, _-_, _≤_, _<_}
 use native.Mathlib.Omega.{arith}
 use native.Mathlib.Decide.{ℕ-discrete, decLt}
-use lib.Dec.{ltb, leb}
+use lib.Dec.{ltb}
 use borrow.Author.Tests.{lt-ltb, le-leb, ltb-true}
 use Rattle.graph.specs.Words.{pick, bit}
 use Rattle.graph.proofs.Facts.{clash, both-true, and-true}
@@ -24,8 +24,8 @@ use Rattle.machine.proofs.Index.{zeros-wait}
 use Rattle.machine.proofs.Lowest.{Lowest}
 use Rattle.machine.proofs.Cases.{beyond, tooSoon, Admitted, Case, unfit, halted, no-task, early, misses, goes-on, cases}
 use Rattle.machine.proofs.Moved.{tick-moves}
-use Rattle.promise.proofs.Safe.{opens, ticks}
-use Rattle.promise.specs.Demand3.{tableOf, tickAt, stateAt}
+use Rattle.promise.proofs.Moves.{opens, ticks}
+use Rattle.promise.specs.Runs.{tableOf, Plan, stated, tickAt, stateAt, answerAt}
 use Rattle.promise.specs.Spacing.{AnsweredBefore, TrueWait, TrueWaits, ReleasedWithin, Spaces, TrueSpacing}
 
 -- ---- a tick more
@@ -45,33 +45,33 @@ goes-on-true t rel x i w p = go (bit (rel x) i) refl
       no-longer = λ h. let q = p .no-longer (omega arith) in (q .0, omega (arith, q .1), q .2, omega (arith, q .3));
     }
 
-module _ (file : List ℕ) (well : read file .outcome ≡ Read) (c : ℕ) (rel : ℕ → ℕ) (choice : ℕ → List ℕ) where
+module _ (file : List ℕ) (well : read file .outcome ≡ Read) (c : ℕ) (plan : Plan) where
   abbrev before : ℕ → State
-  before x = stateAt file c rel choice x
+  before x = stateAt stated file c plan x
 
-  next-wait : (x : ℕ) → tickAt file c rel choice x (before x) .answer .reply .number ≡ 0 → (i : ℕ) → i < 16
-      → wait (before (suc x)) i ≡ pick (bit (rel x) i) (T (tableOf file) i - 1) (wait (before x) i - 1)
-  unfolding stateAt tickAt
+  next-wait : (x : ℕ) → answerAt stated file c plan x .reply .number ≡ 0 → (i : ℕ) → i < 16
+      → wait (before (suc x)) i ≡ pick (bit (plan .rel x) i) (T (tableOf file) i - 1) (wait (before x) i - 1)
+  unfolding stateAt tickAt answerAt
   next-wait x e i b =
-      let q = ticks file well (λ t s. choice x) (before x) (rel x) in
+      let q = ticks file well (λ t s. plan .choice x) (before x) (plan .rel x) in
       ap (λ (z : Ticked). wait (z .state) i) q
-      ∙ tick-moves (λ t s. choice x) (tableOf file) (before x) (rel x) (sym (ap (λ (z : Ticked). z .answer .reply .number) q) ∙ e) .waits i b
+      ∙ tick-moves (λ t s. plan .choice x) (tableOf file) (before x) (plan .rel x) (sym (ap (λ (z : Ticked). z .answer .reply .number) q) ∙ e) .waits i b
 
   first-wait : (i : ℕ) → wait (before 0) i ≡ 0
   unfolding stateAt
   first-wait i = ap (λ (s : State). wait s i) (opens file well c) ∙ zeros-wait c Running i
 
-  all-true : (x : ℕ) → AnsweredBefore file c rel choice x → (i : ℕ) → i < 16 → TrueWait (tableOf file) rel x i (wait (before x) i)
-  all-true zero h i b = subst (TrueWait (tableOf file) rel 0 i) (sym (first-wait i)) (record {
+  all-true : (x : ℕ) → AnsweredBefore file c plan x → (i : ℕ) → i < 16 → TrueWait (tableOf file) (plan .rel) x i (wait (before x) i)
+  all-true zero h i b = subst (TrueWait (tableOf file) (plan .rel) 0 i) (sym (first-wait i)) (record {
     long-enough = λ a l r. absurd (omega arith);
     no-longer = λ k. absurd (omega arith);
   })
   all-true (suc x) h i b =
-      subst (TrueWait (tableOf file) rel (suc x) i) (sym (next-wait x (h x (omega arith)) i b))
-      (goes-on-true (tableOf file) rel x i (wait (before x) i) (all-true x (λ y l. h y (omega arith)) i b))
+      subst (TrueWait (tableOf file) (plan .rel) (suc x) i) (sym (next-wait x (h x (omega arith)) i b))
+      (goes-on-true (tableOf file) (plan .rel) x i (wait (before x) i) (all-true x (λ y l. h y (omega arith)) i b))
 
 pub true-waits : TrueWaits
-true-waits file well c rel choice x h = all-true file well c rel choice x h
+true-waits file well c plan x h = all-true file well c plan x h
 
 -- ---- a next tick
 module _ (t : Table) (rel : ℕ → ℕ) (x : ℕ) (st : State) (waits : (i : ℕ) → i < 16 → TrueWait t rel x i (wait st i)) (small : t .n ≤ 16)
@@ -124,6 +124,6 @@ module _ (t : Table) (rel : ℕ → ℕ) (x : ℕ) (st : State) (waits : (i : �
 
 pub true-spacing : TrueSpacing
 unfolding tableOf
-true-spacing file well c rel choice x h choose named =
-    subst (Spaces (tableOf file) rel x named) (sym (ticks file well choose (stateAt file c rel choice x) named))
-    (spaces (tableOf file) rel x (stateAt file c rel choice x) (true-waits file well c rel choice x h) (read-good file well .n-high) choose named)
+true-spacing file well c plan x h choose named =
+    subst (Spaces (tableOf file) (plan .rel) x named) (sym (ticks file well choose (stateAt stated file c plan x) named))
+    (spaces (tableOf file) (plan .rel) x (stateAt stated file c plan x) (true-waits file well c plan x h) (read-good file well .n-high) choose named)

@@ -14,12 +14,12 @@ use Rattle.machine.specs.declared.State.{State}
 use Rattle.machine.specs.declared.Ticked.{Ticked}
 use Rattle.machine.specs.States.{wait}
 use Rattle.machine.specs.Ticking.{tickBy}
-use Rattle.promise.specs.Demand3.{tableOf, tickAt, stateAt}
+use Rattle.promise.specs.Demand3.{EachAnswered}
+use Rattle.promise.specs.Runs.{tableOf, Plan, stated, stateAt, answerAt}
 
--- A RUN, as demand 3 counts its ticks, all answered 0 before tick x; whatever is chosen. (A refused tick leaves the state as it was.)
-abbrev pub AnsweredBefore : List ℕ → ℕ → (ℕ → ℕ) → (ℕ → List ℕ) → ℕ → Type 0
-AnsweredBefore file clock rel choice x =
-    (y : ℕ) → y < x → tickAt file clock rel choice y (stateAt file clock rel choice y) .answer .reply .number ≡ 0
+-- A STATED RUN, as demand 3 counts its ticks, all answered 0 before tick x; whatever is chosen. (A refused tick leaves the state as it was.)
+abbrev pub AnsweredBefore : List ℕ → ℕ → Plan → ℕ → Type 0
+AnsweredBefore file clock plan x = EachAnswered (answerAt stated file clock plan) x
 
 -- THE WAIT of task i before tick x
 pub record TrueWait (t : Table) (rel : ℕ → ℕ) (x i wait : ℕ) : Type 0 where
@@ -31,8 +31,8 @@ pub record TrueWait (t : Table) (rel : ℕ → ℕ) (x i wait : ℕ) : Type 0 wh
 abbrev pub TrueWaits : Type 0
 TrueWaits =
     (file : List ℕ) → read file .outcome ≡ Read
-    → (clock : ℕ) (rel : ℕ → ℕ) (choice : ℕ → List ℕ) (x : ℕ) → AnsweredBefore file clock rel choice x
-    → (i : ℕ) → i < 16 → TrueWait (tableOf file) rel x i (wait (stateAt file clock rel choice x) i)
+    → (clock : ℕ) (plan : Plan) (x : ℕ) → AnsweredBefore file clock plan x
+    → (i : ℕ) → i < 16 → TrueWait (tableOf file) (plan .rel) x i (wait (stateAt stated file clock plan x) i)
 
 -- task i was released less than T ticks before tick x
 abbrev pub ReleasedWithin : Table → (ℕ → ℕ) → ℕ → ℕ → Type 0
@@ -50,6 +50,6 @@ pub record Spaces (t : Table) (rel : ℕ → ℕ) (x named : ℕ) (answer : Tick
 abbrev pub TrueSpacing : Type 0
 TrueSpacing =
     (file : List ℕ) → read file .outcome ≡ Read
-    → (clock : ℕ) (rel : ℕ → ℕ) (choice : ℕ → List ℕ) (x : ℕ) → AnsweredBefore file clock rel choice x
+    → (clock : ℕ) (plan : Plan) (x : ℕ) → AnsweredBefore file clock plan x
     → (choose : Table → State → List ℕ) (named : ℕ)
-    → Spaces (tableOf file) rel x named (tickBy choose file (stateAt file clock rel choice x) named)
+    → Spaces (tableOf file) (plan .rel) x named (tickBy choose file (stateAt stated file clock plan x) named)

@@ -1,16 +1,14 @@
 -- No at a task that spends more than it may, yes where no task does: that is whether the verdict is 0.
 use mathlib.Core.Path.{_≡_, refl, sym, ap, ap₂, _∙_}
 use mathlib.Core.Logic.{⊎-elim}
-use mathlib.Core.Bool.{Bool, true, false, cond}
+use mathlib.Core.Bool.{Bool, true, false}
 use mathlib.Core.List.{List}
-use Prim.Native.Nat.{ℕ, zero, suc, _+_, _*_, _-_, _≤_, _<_}
+use Prim.Native.Nat.{ℕ, _+_, _*_, _-_, _≤_, _<_}
 use native.Mathlib.Omega.{arith}
 use native.Mathlib.Decide.{ℕ-discrete}
-use lib.Dec.{ltb, eqb, le→leb}
-use lib.Dec as dec
+use lib.Dec.{ltb, eqb}
 use lib.ListN.{getD, take}
-use lib.IntN.{ℤ, pos, negsuc, _-ℤ_}
-use lib.Signed.{leZ, _≤ℤ_, clashℤ}
+use lib.Signed.{clashℤ}
 use borrow.Author.Tests.{ltb-true, ltb-false, ne-eqb}
 use Rattle.graph.specs.Words.{sum, row}
 use Rattle.graph.specs.Graph.{longestOf}
@@ -26,7 +24,7 @@ use Rattle.table.proofs.Prefix.{read-prefix}
 use Rattle.verdict.specs.declared.Verdict.{Verdict}
 use Rattle.verdict.specs.Verdicts.{vol, len, roundedUp, due, margin, verdictOn, verdictRead, verdict}
 use Rattle.verdict.proofs.Amounts.{vol-high, len-vol, allowance-high}
-use Rattle.verdict.proofs.Margins.{not-negative}
+use Rattle.verdict.proofs.Margins.{not-negative, not-less}
 use Rattle.verdict.proofs.Says.{Says, unreadable, refused, accepted, table-says, verdict-says}
 use Rattle.verdict.proofs.Figured.{len-found, due-found, due-ready}
 use Rattle.verdict.proofs.Judged.{good-read, verdict-got}
@@ -38,15 +36,6 @@ Spent t k = (t .m - 1) * len t k + due t k
 
 abbrev pub Passes : Table → ℕ → Type 0
 Passes t k = Spent t k ≤ t .m * D t k
-
--- a difference of what is not more
-not-less : (a b : ℕ) → b ≤ a → pos 0 ≤ℤ (pos a -ℤ pos b)
-not-less a zero h = record { le = le→leb 0 (a + 0) (omega arith) }
-not-less a (suc b) h = record { le = go (ltb a (suc b)) refl }
-  where
-    go : (c : Bool) → ltb a (suc b) ≡ c → dec.T (leZ (pos 0) (cond c (negsuc (suc b - suc a)) (pos (a - suc b))))
-    go true e = absurd (omega (arith, ltb-true a (suc b) e))
-    go false e = le→leb 0 (a - suc b) (omega arith)
 
 -- ---- a good table
 module _ (t : Table) (good : GoodTable t) where
@@ -63,14 +52,6 @@ module _ (t : Table) (good : GoodTable t) where
       (λ r. absurd (clashℤ (r .1 .negative) (rw (r .1 .its-margin) (not-less _ _ (h (verdictOn t .task) (r .1 .below))))))
       (λ r. rw (r .0))
       (table-says t good)
-
-  -- its vol is the sum of its sixteen costs as they lie in memory
-  pub vol-found : (k : ℕ) → k < t .n → (own : List ℕ) (x : ℕ) → own ≡ row 16 (λ u. getD (t .costs) (16 * k + u) 0)
-      → x ≡ sum 16 (λ u. getD own u 0) → x ≡ vol t k
-  unfolding vol cost
-  vol-found k b own x e h =
-      h ∙ ap (λ (l : List ℕ). sum 16 (λ u. getD l u 0)) e ∙ sum-same 16 _ _ (λ u l. row-at 16 (λ u. getD (t .costs) (16 * k + u) 0) u 0 l)
-      ∙ sum-upto (vertices t k) 16 (cost t k) (good .each k b .v-high) (good .each k b .unused)
 
   -- ---- one task, over rows that hold the periods and the vols
   module _ (k : ℕ) (b : k < t .n) (times vols : List ℕ)

@@ -10,40 +10,6 @@ ghost use Rattle.table.specs.Good.{GoodTable};
 ghost use Rattle.verdict.specs.Verdicts.{roundedUp, vol};
 use table::Table;
 
-// A number of 32 bits in 64.
-fn wide(x: u32) -> u64
-    ensures { λ r. ⌜ (r ≡ x) × (r < 4294967296) ⌝ }
-{
-    x as u64
-}
-
-// Task i's own sixteen costs.
-fn own_costs(costs: &[u32; 256], i: usize) -> [u32; 16]
-    requires { ⌜ i < 16 ⌝ }
-    ensures { λ r. ⌜ r ≡ row 16 (λ u. getD (now (costs .entry)) (16 * i + u) 0) ⌝ }
-{
-    let mut own = [0u32; 16];
-    let mut u: usize = 0;
-    while u < 16 {
-        own[u] = costs[16 * i + u];
-        u += 1;
-    }
-    own
-}
-
-// The sum of sixteen costs.
-fn total_of(own: [u32; 16]) -> u64
-    ensures { λ r. ⌜ r ≡ sum 16 (λ u. getD own u 0) ⌝ }
-{
-    let mut total: u64 = 0;
-    let mut u: usize = 0;
-    while u < 16 {
-        total += wide(own[u]);
-        u += 1;
-    }
-    total
-}
-
 // The vol of each task: costs of vertices from v on are 0.
 pub(crate) fn volumes(t: Table) -> [u64; 16]
     requires { ⌜ GoodTable t ⌝ }
@@ -52,8 +18,8 @@ pub(crate) fn volumes(t: Table) -> [u64; 16]
     let mut vols = [0u64; 16];
     let mut i: usize = 0;
     while i < t.n as usize {
-        let own = own_costs(&t.costs, i);
-        vols[i] = total_of(own);
+        let own = verdict::own_costs(&t.costs, i);
+        vols[i] = verdict::total_of(own);
         i += 1;
     }
     vols
@@ -73,15 +39,6 @@ pub(crate) fn periods(t: Table) -> [u32; 16]
     times
 }
 
-// The longest chain of task i, whose successors are given.
-fn len_of(costs: &[u32; 256], i: usize, succ: [u16; 16]) -> u64
-    requires { ⌜ i < 16 ⌝ }
-    ensures { λ r. ⌜ r ≡ longestOf succ (row 16 (λ u. getD (now (costs .entry)) (16 * i + u) 0)) ⌝ }
-{
-    let own = own_costs(costs, i);
-    graph::longest(succ, own)
-}
-
 // Whether the longest chain of task i, taken so many times, exceeds `room`; where not even its vol does, no chain is looked for.
 pub(crate) fn chain_exceeds(
     costs: &[u32; 256],
@@ -98,7 +55,7 @@ pub(crate) fn chain_exceeds(
     if widest <= room {
         return false;
     }
-    let len = len_of(costs, i, succ);
+    let len = verdict::len_of(costs, i, succ);
     let chain = times * len;
     room < chain
 }

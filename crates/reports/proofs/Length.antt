@@ -1,59 +1,24 @@
--- The report of every file has at most 1,366 bytes, so a buffer of that size holds it.
-use mathlib.Core.Path.{_≡_, refl, sym, subst}
-use mathlib.Core.Logic.{_⊎_, ⊎-elim}
+-- The lines of what is printable: how long each is at most, so that 1,366 bytes hold all of them. A number below 10 to the k has at most k digits.
+use mathlib.Core.Path.{_≡_, refl}
 use mathlib.Core.Bool.{Bool, true, false}
 use mathlib.Core.List.{List, _++_}
-use Prim.Native.Nat.{ℕ, _^_, _≤_, _<_}
+use Prim.Native.Nat.{ℕ, _+_, _^_, _≤_, _<_}
 use native.Mathlib.Omega.{arith}
-use lib.Dec.{eqb, leb, leb→le}
+use lib.Dec.{eqb}
 use lib.ListN.{length, getD, length-append}
-use lib.IntN.{ℤ, pos, negsuc, natAbs}
+use lib.IntN.{natAbs}
 use Rattle.graph.specs.Words.{pick, inOrder}
-use Rattle.table.specs.declared.Table.{Table}
 use Rattle.table.specs.declared.Outcome.{Outcome}
 use Rattle.table.specs.declared.Outcome.the-variants.{Read, Short, Mark, Range, Ticks, Order, Edge, Cycle, Extra}
 use Rattle.table.specs.Numbers.{number, place}
-use Rattle.table.specs.Reading.{whenRead, read}
-use Rattle.table.specs.Good.{GoodTable}
-use Rattle.table.proofs.Sound.{read-good}
+use Rattle.table.specs.Reading.{whenRead}
 use Rattle.verdict.specs.declared.Verdict.{Verdict}
-use Rattle.verdict.specs.Verdicts.{vol, len, due, margin, verdictOn}
+use Rattle.verdict.specs.declared.Findings.{Findings}
 use Rattle.text.specs.Text.{text, newline, decimal, signed}
-use Rattle.reports.specs.Report.{headLine, taskLine, vertexAt, lastLine, badLine, reportOn, reportRead, report}
-use Rattle.verdict.proofs.Amounts.{vol-high, len-vol, due-bound}
-use Rattle.verdict.proofs.Margins.{lowEnd, highEnd, InRange, margin-range}
-use Rattle.verdict.proofs.Says.{Refuses, Accepts, table-says}
-use Rattle.verdict.proofs.Named.{table-chain}
 use Rattle.text.proofs.Putting.{joined-most}
 use Rattle.text.proofs.Decimal.{decimal-short, decimal-length, signed-short}
-
--- a margin has at most fifteen digits
-pub fifteen : (z : ℤ) → InRange z → natAbs z < 10 ^ 15
-unfolding lowEnd highEnd
-fifteen (pos n) r = omega (arith, leb→le n 8000000 (r .high .le))
-fifteen (negsuc n) r = omega (arith, leb→le n 240000119999999 (r .low .le))
-
--- ---- the lines
-module _ (t : Table) (good : GoodTable t) where
-  pub head-most : length (headLine t) ≤ 22
-  unfolding headLine text newline
-  head-most = simp length-append (omega (arith, decimal-short 0 (t .m) (omega (arith, good .m-high)), decimal-short 1 (t .n) (omega (arith, good .n-high))))
-
-  pub task-most : (k : ℕ) → k < t .n → length (taskLine t k) ≤ 78
-  unfolding taskLine text newline
-  task-most k b =
-      let v = vol-high t good k b in
-      let l = len-vol t good k b in
-      let d = due-bound t good k b in
-      let n = good .n-high in
-      simp length-append (omega (
-        arith,
-        decimal-short 1 k (omega arith),
-        decimal-short 7 (vol t k) (omega arith),
-        decimal-short 7 (len t k) (omega arith),
-        decimal-short 14 (due t k) (omega arith),
-        signed-short 14 (margin t k) (fifteen (margin t k) (margin-range t good k b)),
-      ))
+use Rattle.reports.specs.Report.{headLine, taskLine, vertexAt, lastLine, badLine}
+use Rattle.reports.specs.Found.{marginIn, figuresIn, linesOn, linesOf, Printable}
 
 -- a vertex has at most two digits, so the chain three bytes for each
 vertex-most : (chain : List ℕ) (i : ℕ) → getD chain i 0 < 10 ^ 2 → length (vertexAt chain i) ≤ 3
@@ -78,41 +43,50 @@ bad-most : (o : Outcome) → length (badLine o) ≤ 1366
 unfolding badLine text newline
 bad-most o = simp length-append (omega (arith, decimal-length (number o) .1, decimal-length (place o) .1))
 
-table-most : (t : Table) → GoodTable t → length (reportOn t) ≤ 1366
-unfolding reportOn inOrder
-table-most t good =
-    simp length-append (omega (
-      arith,
-      head-most t good,
-      joined-most (t .n) 0 78 (taskLine t) (λ j b. task-most t good j (omega arith)),
-      last (table-says t good),
-      good .n-high,
-    ))
-  where
-    last : ((verdictOn t .number ≡ 20) × Refuses t (verdictOn t)) ⊎ ((verdictOn t .number ≡ 0) × Accepts t (verdictOn t)) → length (lastLine (verdictOn t)) ≤ 96
-    last = ⊎-elim (λ q. by (q .0) (omega arith) (q .1 .below) (q .1 .its-margin)) (λ q. by (q .0) (omega arith) (q .1 .below) (q .1 .its-margin))
-      where
-        by : {x : ℕ} → verdictOn t .number ≡ x → x < 100 → verdictOn t .task < t .n → verdictOn t .margin ≡ margin t (verdictOn t .task) → length (lastLine (verdictOn t)) ≤ 96
-        by e l b m =
-            let n = good .n-high in
-            let c = table-chain t good in
-            let v = good .each (verdictOn t .task) b .v-high in
-            last-most (verdictOn t) (omega arith) (omega arith)
-            (subst (λ (z : ℤ). natAbs z < 10 ^ 15) (sym m) (fifteen (margin t (verdictOn t .task)) (margin-range t good (verdictOn t .task) b)))
-            (omega (arith, c .few)) (λ i h. omega (arith, c .vertex i h))
+module _ (f : Findings) (p : Printable f) where
+  pub head-most : length (headLine (f .m) (f .n)) ≤ 22
+  unfolding headLine text newline
+  head-most = simp length-append (omega (arith, decimal-short 0 (f .m) (p .m-short), decimal-short 1 (f .n) (omega (arith, p .n-few))))
 
--- THE REPORT'S LENGTH
-pub report-most : (s : List ℕ) → length (report s) ≤ 1366
-unfolding report reportRead
-report-most s = go (read s .outcome) refl
+  task-most : (k : ℕ) → k < f .n → length (taskLine k (figuresIn f k)) ≤ 78
+  unfolding taskLine figuresIn text newline
+  task-most k b =
+      let n = p .n-few in
+      simp length-append (omega (
+        arith,
+        decimal-short 1 k (omega arith),
+        decimal-short 7 (getD (f .vols) k 0) (p .vol-short k b),
+        decimal-short 7 (getD (f .lens) k 0) (p .len-short k b),
+        decimal-short 14 (getD (f .dues) k 0) (p .due-short k b),
+        signed-short 14 (marginIn f k) (p .margin-short k b),
+      ))
+
+  -- line after line
+  pub lines-most : (k : ℕ) → k ≤ f .n → length (inOrder k (λ i. taskLine i (figuresIn f i))) ≤ 1248
+  unfolding inOrder
+  lines-most k h = omega (arith, joined-most k 0 78 (λ i. taskLine i (figuresIn f i)) (λ j b. task-most j (omega arith)), p .n-few)
+
+  on-most : length (linesOn f) ≤ 1366
+  unfolding linesOn
+  on-most = simp length-append (omega (
+    arith,
+    head-most,
+    lines-most (f .n) (omega arith),
+    last-most (f .verdict) (p .number-short) (p .task-short) (p .named-short) (p .count-few) (p .vertex-short),
+  ))
+
+-- ALL THE LINES of a file
+pub lines-of-most : (f : Findings) → (f .outcome ≡ Read → Printable f) → length (linesOf f) ≤ 1366
+unfolding linesOf
+lines-of-most f p = go (f .outcome) p
   where
-    go : (o : Outcome) → read s .outcome ≡ o → length (whenRead o badLine (λ _. reportOn (read s .table))) ≤ 1366
-    go Read e = table-most (read s .table) (read-good s e)
-    go (Short p) e = bad-most (Short p)
-    go (Mark p) e = bad-most (Mark p)
-    go (Range p) e = bad-most (Range p)
-    go (Ticks p) e = bad-most (Ticks p)
-    go (Order p) e = bad-most (Order p)
-    go (Edge p) e = bad-most (Edge p)
-    go (Cycle p) e = bad-most (Cycle p)
-    go (Extra p) e = bad-most (Extra p)
+    go : (o : Outcome) → (o ≡ Read → Printable f) → length (whenRead o badLine (λ _. linesOn f)) ≤ 1366
+    go Read q = on-most f (q refl)
+    go (Short x) q = bad-most (Short x)
+    go (Mark x) q = bad-most (Mark x)
+    go (Range x) q = bad-most (Range x)
+    go (Ticks x) q = bad-most (Ticks x)
+    go (Order x) q = bad-most (Order x)
+    go (Edge x) q = bad-most (Edge x)
+    go (Cycle x) q = bad-most (Cycle x)
+    go (Extra x) q = bad-most (Extra x)

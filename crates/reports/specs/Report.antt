@@ -1,5 +1,4 @@
--- The report's text, as bytes: document 01, "Examples by hand"; document 02, M-102, for the chain.
-use mathlib.Core.Path.{_≡_}
+-- The report's text, as bytes: document 01, "Examples by hand"; document 02, M-102, for the chain, and M-107 for the sharp report.
 use mathlib.Core.List.{List, _++_}
 use Prim.Native.Nat.{ℕ, _-_}
 use lib.Dec.{leb, eqb}
@@ -11,21 +10,21 @@ use Rattle.table.specs.declared.Outcome.{Outcome}
 use Rattle.table.specs.declared.Loaded.{Loaded}
 use Rattle.table.specs.Numbers.{number, place}
 use Rattle.table.specs.Reading.{whenRead, read}
-use Rattle.table.specs.Good.{GoodTable}
 use Rattle.verdict.specs.declared.Verdict.{Verdict}
-use Rattle.verdict.specs.declared.Findings.{Findings}
+use Rattle.verdict.specs.declared.Figures.{Figures}
+use Rattle.verdict.specs.Verdicts.{verdictOn, figuresOn}
+use Rattle.sharp.specs.Sharp.{sharpOn, sharpFiguresOn}
 use Rattle.reports.specs.declared.Report.{Report}
-use Rattle.verdict.specs.Verdicts.{vol, len, due, margin, verdictOn, findingsOn}
 
 -- "processors 2 tasks 2"
-unfoldable pub headLine : Table → List ℕ
-headLine t = text "processors " ++ decimal (t .m) ++ text " tasks " ++ decimal (t .n) ++ newline
+unfoldable pub headLine : ℕ → ℕ → List ℕ
+headLine m n = text "processors " ++ decimal m ++ text " tasks " ++ decimal n ++ newline
 
--- "task 0 vol 6 len 5 due 14 margin 1"
-unfoldable pub taskLine : Table → ℕ → List ℕ
-taskLine t k =
-    text "task " ++ decimal k ++ text " vol " ++ decimal (vol t k) ++ text " len " ++ decimal (len t k)
-    ++ text " due " ++ decimal (due t k) ++ text " margin " ++ signed (margin t k) ++ newline
+-- "task 0 vol 6 len 5 due 14 margin 1": task k, by its figures
+unfoldable pub taskLine : ℕ → Figures → List ℕ
+taskLine k f =
+    text "task " ++ decimal k ++ text " vol " ++ decimal (f .vol) ++ text " len " ++ decimal (f .len)
+    ++ text " due " ++ decimal (f .due) ++ text " margin " ++ signed (f .margin) ++ newline
 
 -- M-102: "the vertices parted by spaces", a space before each
 unfoldable pub vertexAt : List ℕ → ℕ → List ℕ
@@ -42,26 +41,27 @@ lastLine v =
 unfoldable pub badLine : Outcome → List ℕ
 badLine o = text "unreadable " ++ decimal (number o) ++ text " at " ++ decimal (place o) ++ newline
 
--- "A line a task, then the verdict"
-unfoldable pub reportOn : Table → List ℕ
-reportOn t = headLine t ++ inOrder (t .n) (taskLine t) ++ lastLine (verdictOn t)
+-- "A line a task, then the verdict": by the figures of each task and the verdict on the table
+unfoldable pub reportOn : (Table → ℕ → Figures) → (Table → Verdict) → Table → List ℕ
+reportOn figures judged t = headLine (t .m) (t .n) ++ inOrder (t .n) (λ k. taskLine k (figures t k)) ++ lastLine (judged t)
 
 -- on what reading gave: one line, or the report on its table
-unfoldable pub reportRead : Loaded → List ℕ
-reportRead r = whenRead (r .outcome) badLine λ _. reportOn (r .table)
+unfoldable pub reportRead : (Table → ℕ → Figures) → (Table → Verdict) → Loaded → List ℕ
+reportRead figures judged r = whenRead (r .outcome) badLine λ _. reportOn figures judged (r .table)
 
--- what was found of some good table: for the contracts of the parts
-abbrev pub OfGood : Findings → Type 0
-OfGood f = (t : Table) × GoodTable t × (f ≡ findingsOn t)
-
--- "The report program reads a table from standard input; .. it prints exactly": at most 1,366 bytes (`report-most`, proofs/Length.antt)
+-- THE REPORT. "The report program reads a table from standard input; .. it prints exactly": at most 1,366 bytes (`report-most`,
+-- proofs/Length.antt)
 unfoldable pub report : List ℕ → List ℕ
-report s = reportRead (read s)
+report s = reportRead figuresOn verdictOn (read s)
 
--- that text in memory: at the front of 2,048 bytes, with zeros behind it, and its length
+-- THE SHARP REPORT (M-107): the same lines with the sharp due work and margins, and the sharp verdict; no longer either
+unfoldable pub sharpReport : List ℕ → List ℕ
+sharpReport s = reportRead sharpFiguresOn sharpOn (read s)
+
+-- a text in memory: at the front of 2,048 bytes, with zeros behind it, and its length
 unfoldable pub reported : List ℕ → Report
-reported s = record { bytes = report s ++ replicate (2048 - length (report s)) 0; len = length (report s) }
+reported words = record { bytes = words ++ replicate (2048 - length words) 0; len = length words }
 
 -- in a caller's own buffer: at its front if it fits, the rest unchanged; otherwise nothing is written
 unfoldable pub reportInto : List ℕ → List ℕ → List ℕ
-reportInto s buf = pick (leb (length (report s)) (length buf)) (report s ++ drop (length (report s)) buf) buf
+reportInto words buf = pick (leb (length words) (length buf)) (words ++ drop (length words) buf) buf

@@ -1,10 +1,11 @@
 // Runs recorded cases through the verdict and the report. Input, a case: the length (two bytes, little-endian) and the bytes of a
 // file, or length 0 for the file of the case before, as it stood then; and a count of changes (a byte), each a place (two bytes) and
-// the byte that stands there now. Output, a line a case: number, place, task, margin, how many vertices
-// the chain has and the checksum of its sixteen places, the report's length and its checksum.
+// the byte that stands there now. Output, two lines a case, of the verdict and of the sharp verdict: number, place, task, margin, how many
+// vertices the chain has and the checksum of its sixteen places, the report's length and its checksum.
 // The second program wrote both the cases and what is expected.
 ghost use mathlib.Core.Path.{_≡_};
 ghost use Prim.Native.Nat.{_≤_, _<_};
+use verdict::Verdict;
 
 // Whether there was a case, and the length of the file that the next one may take again.
 struct After {
@@ -82,9 +83,8 @@ fn print_signed(page: &mut [u8], x: i64) {
     io::write_all(1, &page[..k]);
 }
 
-// The verdict's part of a line.
-fn answer_verdict(file: &[u8], page: &mut [u8]) {
-    let v = verdict::verdict_of(file);
+// A verdict's part of a line.
+fn answer_verdict(v: Verdict, page: &mut [u8]) {
     io::print_decimal(1, wide(v.number));
     print_next(v.place as u64);
     print_next(wide(v.task));
@@ -94,20 +94,28 @@ fn answer_verdict(file: &[u8], page: &mut [u8]) {
     print_next(sum_of(&chain));
 }
 
-// The report's part; its text is laid into the buffer.
-fn answer_report(file: &[u8], page: &mut [u8]) {
-    let len = reports::report_into(file, &mut *page);
+// The part of a report, whose text was laid into the buffer; the line's end.
+fn answer_report(len: usize, page: &[u8]) {
     let k = smaller(len, page.len());
     print_next(len as u64);
     print_next(sum_of(&page[..k]));
+    io::write_all(1, b"\n");
 }
 
-// The line of a case, whose file is the first n bytes.
+// Both lines of a case.
+fn answer_file(file: &[u8], page: &mut [u8]) {
+    answer_verdict(verdict::verdict_of(file), &mut *page);
+    let len = reports::report_into(file, &mut *page);
+    answer_report(len, page);
+    answer_verdict(sharp::sharp_of(file), &mut *page);
+    let sharp_len = reports::sharp_report_into(file, &mut *page);
+    answer_report(sharp_len, page);
+}
+
+// The lines of a case, whose file is the first n bytes.
 fn answer(bytes: &[u8], n: usize, page: &mut [u8]) {
     let k = smaller(n, bytes.len());
-    answer_verdict(&bytes[..k], &mut *page);
-    answer_report(&bytes[..k], page);
-    io::write_all(1, b"\n");
+    answer_file(&bytes[..k], page);
 }
 
 // Reads the next n bytes of the input into the front of a buffer, and answers how many there were.

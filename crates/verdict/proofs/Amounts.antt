@@ -19,13 +19,13 @@ use Rattle.table.specs.Good.{GoodTable}
 use Rattle.verdict.specs.Verdicts.{vol, len, roundedUp, due}
 
 -- ---- sums
-sum-most : (n c : ℕ) (f : ℕ → ℕ) → ((i : ℕ) → i < n → f i ≤ c) → sum n f ≤ c * n
+pub sum-most : (n c : ℕ) (f : ℕ → ℕ) → ((i : ℕ) → i < n → f i ≤ c) → sum n f ≤ c * n
 unfolding sum
 sum-most zero c f h = omega arith
 sum-most (suc n) c f h = omega (arith, sum-most n c f (λ i b. h i (omega arith)), h n (omega arith), mul-suc c n)
 
 -- one term is at most a, and each of the others at most c
-sum-but-one : (n a c p : ℕ) (f : ℕ → ℕ) → p < suc n → f p ≤ a → ((i : ℕ) → i < suc n → f i ≤ c) → sum (suc n) f ≤ a + c * n
+pub sum-but-one : (n a c p : ℕ) (f : ℕ → ℕ) → p < suc n → f p ≤ a → ((i : ℕ) → i < suc n → f i ≤ c) → sum (suc n) f ≤ a + c * n
 unfolding sum
 sum-but-one zero a c p f b h k = let z : p ≡ 0 = omega arith in let y : f 0 ≤ a = rw z at h in omega arith
 sum-but-one (suc n) a c p f b h k = elim (ℕ-discrete p (suc n)) [
@@ -116,7 +116,7 @@ module _ (t : Table) (good : GoodTable t) where
   unfolding vol
   vol-high k b = omega (arith, sum-most (vertices t k) 1000000 (cost t k) (good .each k b .cost-high), good .each k b .v-high)
 
-  climbs : (k : ℕ) → k < t .n → (u w : ℕ) → u < vertices t k → w < vertices t k → edgeIn t k u w ≡ true → rank 16 (edgeIn t k) u < rank 16 (edgeIn t k) w
+  pub climbs : (k : ℕ) → k < t .n → (u w : ℕ) → u < vertices t k → w < vertices t k → edgeIn t k u w ≡ true → rank 16 (edgeIn t k) u < rank 16 (edgeIn t k) w
   unfolding acyclic edgeIn
   climbs k b u w l h e = let v = good .each k b .v-high in rank-up 16 (edgeIn t k) (good .each k b .no-cycle) u w (omega arith) e
 

@@ -2,7 +2,7 @@
 use mathlib.Core.Path.{_≡_, refl, sym, ap, ap₂, _∙_}
 use mathlib.Core.Bool.{Bool, true, false, cond}
 use mathlib.Core.List.{List, [], _∷_}
-use Prim.Native.Nat.{ℕ, zero, suc, _+_, _*_, _-_, _/_, _^_, _≤_, _<_}
+use Prim.Native.Nat.{ℕ, zero, suc, _+_, _*_, _-_, _/_, _^_, _≤_, _<_, min}
 use native.Mathlib.Omega.{arith}
 use native.Mathlib.Nat.{mul-le-mul, div-le-self}
 use native.Mathlib.Numerals.{add-one}
@@ -18,7 +18,7 @@ use mir.Facts.{toZ-pos, toZ-ofZ}
 use borrow.Author.Tests.{lt-ltb, ltb-true, ltb-false}
 use Rattle.graph.specs.Words.{pick, sum, row}
 use Rattle.graph.specs.Graph.{longestOf}
-use Rattle.graph.proofs.Facts.{sum-same, length-row, row-at, past-end}
+use Rattle.graph.proofs.Facts.{sum-same, sum-upto, length-row, row-at, past-end}
 use Rattle.graph.proofs.Narrow.{longestOf-is}
 use Rattle.chains.specs.declared.ChainFound.{ChainFound}
 use Rattle.chains.specs.Chains.{chainOf, answered, longestChain}
@@ -68,6 +68,12 @@ filled-row {f} {a} r =
     ext-getD 0 a (row 16 f) (r .size ∙ sym (length-row 16 f))
     (λ i h. let l : i < 16 = omega (arith, r .size) in r .each i l ∙ sym (row-at 16 f i 0 l))
 
+-- sixteen numbers from past the end of a row of 256
+pub costs-none : (costs : List ℕ) (i : ℕ) → length costs ≡ 256 → 16 ≤ i → replicate 16 0 ≡ row 16 (λ u. getD costs (16 * i + u) 0)
+costs-none costs i e h =
+    let r = filled-none {f = λ u. getD costs (16 * i + u) 0} {a = replicate 16 0} refl in
+    filled-row (record { size = r .size; each = λ j l. r .rest j (omega arith) ∙ sym (past-end costs (16 * i + j) 0 (omega arith)); rest = λ j l. r .rest j (omega arith) })
+
 -- the first n of them, and zeros
 pub filled-upTo : {f : ℕ → ℕ} {n : ℕ} {a : List ℕ} → Filled f n a → a ≡ upTo n f
 unfolding upTo
@@ -84,6 +90,13 @@ unfolding upTo
 upTo-at n k f b h = row-at 16 (λ k. pick (ltb k n) (f k) 0) k 0 (omega arith) ∙ ap (λ (c : Bool). pick c (f k) 0) (lt-ltb k n b)
 
 module _ (t : Table) (good : GoodTable t) (k : ℕ) (b : k < t .n) where
+  -- the sum of its sixteen costs as they lie in memory is vol
+  pub vol-found : (own : List ℕ) (x : ℕ) → own ≡ row 16 (λ u. getD (t .costs) (16 * k + u) 0) → x ≡ sum 16 (λ u. getD own u 0) → x ≡ vol t k
+  unfolding vol cost
+  vol-found own x e h =
+      h ∙ ap (λ (l : List ℕ). sum 16 (λ u. getD l u 0)) e ∙ sum-same 16 _ _ (λ u l. row-at 16 (λ u. getD (t .costs) (16 * k + u) 0) u 0 l)
+      ∙ sum-upto (vertices t k) 16 (cost t k) (good .each k b .v-high) (good .each k b .unused)
+
   -- the longest chain of the successors and the sixteen costs as they lie in memory is len
   pub len-found : (x : ℕ) → x ≡ longestOf (succ t k) (row 16 (λ u. getD (t .costs) (16 * k + u) 0)) → x ≡ len t k
   unfolding len edgeIn cost
@@ -148,12 +161,15 @@ module _ (t : Table) (good : GoodTable t) (k : ℕ) (b : k < t .n) where
     pub held-due : (y : ℕ) → y ≡ sum (x .n) (λ i. roundedUp (getD (x .deadlines) k 0) (getD (x .periods) i 0) * getD (x .vols) i 0) → y ≡ due t k
     held-due y e = due-found (x .periods) (x .vols) (h .T-is) (h .vol-is) y (rw (h .n-is, h .D-is k b) at e)
 
-    module _ (y : ℕ) (d : y ≡ due t k) where
-      pub held-margin-ready : (1 ≤ x .m) × (x .m ≤ 8) × (getD (x .deadlines) k 0 ≤ 1000000) × (getD (x .lens) k 0 ≤ 16000000) × (y ≤ 240000016000000)
-      held-margin-ready = rw (h .m-is, h .D-is k b) (margin-ready (getD (x .lens) k 0) y (h .len-is k b) d)
-
-      pub held-margin : (z : ℤ) → z ≡ pos (x .m * getD (x .deadlines) k 0) -ℤ pos ((x .m - 1) * getD (x .lens) k 0 + y) → z ≡ margin t k
-      held-margin z e = margin-found (getD (x .lens) k 0) y (h .len-is k b) d z (rw (h .m-is, h .D-is k b) at e)
+    pub held-margin : (y : ℕ) → y ≡ due t k → (z : ℤ)
+        → z ≡ pos (x .m * getD (x .deadlines) k 0) -ℤ pos ((x .m - 1) * min (getD (x .lens) k 0) (2 ^ 53) + min y (2 ^ 53)) → z ≡ margin t k
+    held-margin y d z e =
+        let l = h .len-is k b in
+        margin-found (getD (x .lens) k 0) y l d z
+        (rw (h .m-is, h .D-is k b) at e ∙ ap₂ (λ (x y : ℕ). pos (t .m * D t k) -ℤ pos ((t .m - 1) * x + y)) (small (omega (arith, len-vol t good k b, vol-high t good k b))) (small (omega (arith, due-bound t good k b))))
+      where
+        small : {x : ℕ} → x ≤ 2 ^ 53 → min x (2 ^ 53) ≡ x
+        small h = omega arith
 
 pub few-held : (x : Measures) → OfGood x → x .n ≤ 16
 few-held x (t, g, h) = omega (arith, g .n-high, h .n-is)
@@ -173,6 +189,13 @@ product-fits a b h k = record { fits = omega (arith, product-small a b h k) }
 
 pub spent-fits : (a b c : ℕ) → a ≤ 8 → b ≤ 16000000 → c ≤ 240000016000000 → Fits w64 (a * b + c)
 spent-fits a b c h k l = record { fits = omega (arith, spent-small a b c h k l) }
+
+-- (m minus 1) times what is at most 2 ^ 53, and as much again
+pub spent-within : (f x y : ℕ) → f ≤ 254 → x ≤ 2 ^ 53 → y ≤ 2 ^ 53 → f * x + y < 2 ^ 61
+spent-within f x y h k l = omega (arith, mul-le-mul {n₂ = 254} {m₂ = 2 ^ 53} h k)
+
+pub allowed-within : (m d : ℕ) → m ≤ 255 → d < 2 ^ 32 → m * d < 2 ^ 40
+allowed-within m d h k = omega (arith, mul-le-mul {m₁ = d} {n₂ = 255} {m₂ = 2 ^ 32} h (omega arith))
 
 -- ---- a difference of two numbers as the machine has it
 either-mag : (c : Bool) (x y n : ℕ) → x ≤ n → y ≤ n → mag (cond c (negsuc x) (pos y)) ≤ n

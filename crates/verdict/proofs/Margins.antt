@@ -10,7 +10,7 @@ use native.Mathlib.Decide.{decLe}
 use lib.Dec.{T, ltb, leb, le→leb}
 use lib.IntN.{ℤ, pos, negsuc, negℤ, _+ℤ_, _-ℤ_, -ℤ-+ℤ-cancel}
 use lib.Signed.{leZ, _≤ℤ_}
-use borrow.Author.Tests.{ltb-false}
+use borrow.Author.Tests.{ltb-true, ltb-false}
 use Rattle.table.specs.declared.Table.{Table}
 use Rattle.table.specs.declared.Outcome.the-variants.{Read}
 use Rattle.table.specs.Memory.{D}
@@ -45,6 +45,15 @@ not-negative a (suc b) h = go (ltb a (suc b)) refl (h .le)
     go : (c : Bool) → ltb a (suc b) ≡ c → T (leZ (pos 0) (cond c (negsuc (suc b - suc a)) (pos (a - suc b)))) → suc b ≤ a
     go true e h = absurd h
     go false e h = ltb-false a (suc b) e
+
+-- and one of what is not more
+pub not-less : (a b : ℕ) → b ≤ a → pos 0 ≤ℤ (pos a -ℤ pos b)
+not-less a zero h = record { le = le→leb 0 (a + 0) (omega arith) }
+not-less a (suc b) h = record { le = go (ltb a (suc b)) refl }
+  where
+    go : (c : Bool) → ltb a (suc b) ≡ c → T (leZ (pos 0) (cond c (negsuc (suc b - suc a)) (pos (a - suc b))))
+    go true e = absurd (omega (arith, ltb-true a (suc b) e))
+    go false e = le→leb 0 (a - suc b) (omega arith)
 
 -- ---- THE MARGIN with what it was lessened by is m times D
 pub margin-is : (t : Table) (k : ℕ) → margin t k +ℤ pos ((t .m - 1) * len t k + due t k) ≡ pos (t .m * D t k)

@@ -5,6 +5,7 @@ use mathlib.Core.List.{List, [], _∷_}
 use Prim.Native.Nat.{ℕ, zero, suc, _≤_, _<_}
 use native.Mathlib.Omega.{arith}
 use lib.ListN.{length, getD, take, length-take}
+use lib.IntN.{ℤ}
 use lib.Seq.{ext-getD, getD-take}
 use Rattle.graph.specs.Words.{row}
 use Rattle.graph.specs.Graph.{Chain, joined, sumAlong}
@@ -19,7 +20,7 @@ use Rattle.table.specs.Reading.{read}
 use Rattle.table.specs.Good.{GoodTable}
 use Rattle.table.proofs.Sound.{read-good}
 use Rattle.verdict.specs.declared.Verdict.{Verdict}
-use Rattle.verdict.specs.Verdicts.{len, chain, inPlaces, listed, naming, verdictOn, verdict}
+use Rattle.verdict.specs.Verdicts.{len, margin, chain, inPlaces, listed, naming, verdictOn, verdict}
 use Rattle.verdict.proofs.Says.{named-below, names}
 use Rattle.verdict.proofs.Judged.{verdict-got}
 
@@ -75,16 +76,19 @@ module _ (t : Table) (good : GoodTable t) (k : ℕ) (b : k < t .n) where
       go [] p = absurd (none-chain p)
       go (u ∷ c) p = omega arith
 
-  listed-is : (number : ℕ) → listed (naming number t k) ≡ chain t k
-  unfolding listed naming
-  listed-is number = let v = good .each k b .v-high in places-are (chain t k) (omega (arith, chain-few))
+  -- an answer that names task k and hands on its chain, whatever its number and margin
+  listed-is : (number : ℕ) (z : ℤ)
+      → listed (record { number = number; place = 0; task = k; margin = z; count = length (chain t k); chain = inPlaces (chain t k) }) ≡ chain t k
+  unfolding listed
+  listed-is number z = let v = good .each k b .v-high in places-are (chain t k) (omega (arith, chain-few))
 
-  names-chain : (number : ℕ) → NamesChain t (naming number t k)
-  unfolding naming len
-  names-chain number = record {
+  pub names-chain : (number : ℕ) (z : ℤ)
+      → NamesChain t (record { number = number; place = 0; task = k; margin = z; count = length (chain t k); chain = inPlaces (chain t k) })
+  unfolding len
+  names-chain number z = record {
     below = b;
-    chain = subst (LongestByName (vertices t k) (edgeIn t k) (cost t k)) (sym (listed-is number)) chain-named;
-    its-len = ap (sumAlong (cost t k)) (listed-is number) ∙ chain-named .sum;
+    chain = subst (LongestByName (vertices t k) (edgeIn t k) (cost t k)) (sym (listed-is number z)) chain-named;
+    its-len = ap (sumAlong (cost t k)) (listed-is number z) ∙ chain-named .sum;
     some = chain-some;
     few = chain-few;
     unused = places-unused (chain t k);
@@ -95,7 +99,9 @@ module _ (t : Table) (good : GoodTable t) (k : ℕ) (b : k < t .n) where
 
 -- every good table
 pub table-chain : (t : Table) → GoodTable t → NamesChain t (verdictOn t)
-table-chain t good = subst (NamesChain t) (sym (names t good)) (names-chain t good (verdictOn t .task) (named-below t good) (verdictOn t .number))
+unfolding naming
+table-chain t good =
+    subst (NamesChain t) (sym (names t good)) (names-chain t good (verdictOn t .task) (named-below t good) (verdictOn t .number) (margin t (verdictOn t .task)))
 
 -- EVERY FILE THAT IS READ; of one that is not, `Unreadable` (proofs/Says.antt) says that there is no chain
 pub verdict-chain : (s : List ℕ) → read s .outcome ≡ Read → NamesChain (read s .table) (verdict s)

@@ -1,15 +1,15 @@
 -- WHAT THE VERDICT'S NUMBERS SAY of a file: reading's numbers 1 to 8, 20 and 0, each with its task and margin; nothing else.
 use mathlib.Core.Path.{_≡_, refl, sym, ap, subst, _∙_}
 use mathlib.Core.Logic.{_⊎_, inl, inr, ⊎-elim}
-use mathlib.Core.Bool.{Bool, true, false}
+use mathlib.Core.Bool.{false}
 use mathlib.Core.List.{List}
-use Prim.Native.Nat.{ℕ, suc, _-_, _≤_, _<_}
+use Prim.Native.Nat.{ℕ, _≤_, _<_}
 use native.Mathlib.Omega.{arith}
 use lib.ListN.{replicate}
-use lib.IntN.{ℤ, pos}
-use lib.Signed.{ltZ, leZ, _≤ℤ_, _<ℤ_}
-use Rattle.graph.specs.Words.{all, rowFrom, row, lowest}
-use Rattle.graph.proofs.Facts.{clash, all-of, all-at, all-not, lowest-is, lowestOr-none}
+use lib.IntN.{pos}
+use lib.Signed.{_≤ℤ_, _<ℤ_}
+use Rattle.graph.specs.Words.{rowFrom, row}
+use Rattle.graph.proofs.Facts.{lowest-is, lowestOr-none}
 use Rattle.table.specs.declared.Table.{Table}
 use Rattle.table.specs.declared.Outcome.{Outcome}
 use Rattle.table.specs.declared.Outcome.the-variants.{Read, Short, Mark, Range, Ticks, Order, Edge, Cycle, Extra}
@@ -19,7 +19,8 @@ use Rattle.table.specs.Good.{GoodTable}
 use Rattle.table.proofs.Sound.{read-good}
 use Rattle.verdict.specs.declared.Verdict.{Verdict}
 use Rattle.verdict.specs.Verdicts.{margin, naming, verdictOn, inPlaces, unread, verdictRead, verdict}
-use Rattle.verdict.proofs.Orders.{le-yes, lt-yes, not-lt, le-trans, smallest, Lowest, search-low, lowestOr-is}
+use Rattle.verdict.proofs.Orders.{Lowest, search-low, lowestOr-is}
+use Rattle.verdict.proofs.Walk.{negative, least, first-negative, some-least, first-smallest}
 
 -- "a file that reading refuses gets that number and place, task 255 and margin 0"; it "has no chain"
 pub record Unreadable (o : Outcome) (v : Verdict) : Type 0 where
@@ -50,71 +51,33 @@ pub record Accepts (t : Table) (v : Verdict) : Type 0 where
   pub none-lower : (j : ℕ) → j < v .task → v .margin <ℤ margin t j
 
 module _ (t : Table) (good : GoodTable t) where
-  unfoldable pub negative : ℕ → Bool
-  negative k = ltZ (margin t k) (pos 0)
-
-  unfoldable pub least : ℕ → Bool
-  least k = all (t .n) (λ i. leZ (margin t k) (margin t i))
-
-  passing : (k : ℕ) → negative k ≡ false → pos 0 ≤ℤ margin t k
-  unfolding negative
-  passing k h = le-yes (pos 0) (margin t k) (not-lt (margin t k) (pos 0) h)
-
   -- ---- 20
-  pub some-negative : (y : ℕ) → Lowest (t .n) negative y → verdictOn t ≡ naming 20 t y
+  pub some-negative : (y : ℕ) → Lowest (t .n) (negative (margin t)) y → verdictOn t ≡ naming 20 t y
   unfolding verdictOn negative
-  some-negative y h = lowestOr-is (t .n) negative (naming 20 t) _ y h
+  some-negative y h = lowestOr-is (t .n) (negative (margin t)) (naming 20 t) _ y h
 
-  refuses : (y : ℕ) → Lowest (t .n) negative y → Refuses t (naming 20 t y)
-  unfolding naming negative
-  refuses y h = record {
-    place = refl;
-    below = h .0;
-    its-margin = refl;
-    negative = lt-yes (margin t y) (pos 0) (h .1);
-    none-lower = λ j b. passing j (h .2 j b);
-  }
+  refuses : (y : ℕ) → Lowest (t .n) (negative (margin t)) y → Refuses t (naming 20 t y)
+  unfolding naming
+  refuses y h =
+      let r = first-negative (margin t) (t .n) y h in
+      record { place = refl; below = r .below; its-margin = refl; negative = r .negative; none-lower = r .none-lower }
 
   -- ---- 0
-  some-least : (y : ℕ) × Lowest (t .n) least y
-  unfolding least
-  some-least = ⊎-elim (λ r. r) (λ h. absurd (none h)) (search-low (t .n) least)
-    where
-      none : ((j : ℕ) → j < t .n → least j ≡ false) → ⊥
-      none h =
-          let l = good .n-low in
-          let e : suc (t .n - 1) ≡ t .n = omega arith in
-          let r = smallest (t .n - 1) (margin t) in
-          clash (all-of (t .n) (λ i. leZ (margin t (r .0)) (margin t i)) (λ i b. r .2 i (omega arith))) (h (r .0) (omega (arith, r .1)))
+  some-smallest : (y : ℕ) × Lowest (t .n) (least (margin t) (t .n)) y
+  some-smallest = some-least (margin t) (t .n) (good .n-low)
 
-  pub none-negative : ((k : ℕ) → k < t .n → negative k ≡ false) → (y : ℕ) → Lowest (t .n) least y → verdictOn t ≡ naming 0 t y
+  pub none-negative : ((k : ℕ) → k < t .n → negative (margin t) k ≡ false) → (y : ℕ) → Lowest (t .n) (least (margin t) (t .n)) y
+      → verdictOn t ≡ naming 0 t y
   unfolding verdictOn negative least
   none-negative h y l =
-      lowestOr-none (t .n) negative (naming 20 t) _ h
-      ∙ ap (naming 0 t) (lowest-is 255 (t .n) least y (l .0) (l .1) (l .2))
+      lowestOr-none (t .n) (negative (margin t)) (naming 20 t) _ h
+      ∙ ap (naming 0 t) (lowest-is 255 (t .n) (least (margin t) (t .n)) y (l .0) (l .1) (l .2))
 
-  accepts : ((k : ℕ) → k < t .n → negative k ≡ false) → (y : ℕ) → Lowest (t .n) least y → Accepts t (naming 0 t y)
-  unfolding naming least
-  accepts h y l = record {
-    place = refl;
-    below = l .0;
-    its-margin = refl;
-    passes = λ k b. passing k (h k b);
-    smallest = λ i b. le-yes (margin t y) (margin t i) (within i b);
-    none-lower = λ j b. lt-yes (margin t y) (margin t j) (lower j b);
-  }
-    where
-      within : (i : ℕ) → i < t .n → leZ (margin t y) (margin t i) ≡ true
-      within i b = all-at (t .n) (λ i. leZ (margin t y) (margin t i)) (l .1) i b
-
-      lower : (j : ℕ) → j < y → ltZ (margin t y) (margin t j) ≡ true
-      lower j b =
-          let r = all-not (t .n) (λ i. leZ (margin t j) (margin t i)) (l .2 j b) in
-          go (r .0) (r .1) (r .2) (ltZ (margin t y) (margin t j)) refl
-        where
-          go : (i : ℕ) → i < t .n → leZ (margin t j) (margin t i) ≡ false → (c : Bool) → ltZ (margin t y) (margin t j) ≡ c → c ≡ true
-          go i b n true e = refl
-          go i b n false e = absurd (clash (le-trans (margin t j) (margin t y) (margin t i) (not-lt (margin t y) (margin t j) e) (within i b)) n)
+  accepts : ((k : ℕ) → k < t .n → negative (margin t) k ≡ false) → (y : ℕ) → Lowest (t .n) (least (margin t) (t .n)) y → Accepts t (naming 0 t y)
+  unfolding naming
+  accepts h y l =
+      let r = first-smallest (margin t) (t .n) h y l in
+      record { place = refl; below = r .below; its-margin = refl; passes = r .passes; smallest = r .smallest; none-lower = r .none-lower }
 
   -- a good table gets 20 or 0
   pub table-says : ((verdictOn t .number ≡ 20) × Refuses t (verdictOn t)) ⊎ ((verdictOn t .number ≡ 0) × Accepts t (verdictOn t))
@@ -122,9 +85,9 @@ module _ (t : Table) (good : GoodTable t) where
   table-says = ⊎-elim
       (λ r. let e = some-negative (r .0) (r .1) in
       inl (ap (λ (v : Verdict). v .number) e, subst (λ (v : Verdict). Refuses t v) (sym e) (refuses (r .0) (r .1))))
-      (λ h. let e = none-negative h (some-least .0) (some-least .1) in
-      inr (ap (λ (v : Verdict). v .number) e, subst (λ (v : Verdict). Accepts t v) (sym e) (accepts h (some-least .0) (some-least .1))))
-      (search-low (t .n) negative)
+      (λ h. let e = none-negative h (some-smallest .0) (some-smallest .1) in
+      inr (ap (λ (v : Verdict). v .number) e, subst (λ (v : Verdict). Accepts t v) (sym e) (accepts h (some-smallest .0) (some-smallest .1))))
+      (search-low (t .n) (negative (margin t)))
 
   -- it names a task of the table, and is the answer that names it
   pub named-below : verdictOn t .task < t .n
@@ -134,8 +97,8 @@ module _ (t : Table) (good : GoodTable t) where
   unfolding naming
   names = ⊎-elim
       (λ r. by 20 (r .0) (some-negative (r .0) (r .1)))
-      (λ h. by 0 (some-least .0) (none-negative h (some-least .0) (some-least .1)))
-      (search-low (t .n) negative)
+      (λ h. by 0 (some-smallest .0) (none-negative h (some-smallest .0) (some-smallest .1)))
+      (search-low (t .n) (negative (margin t)))
     where
       by : (x y : ℕ) → verdictOn t ≡ naming x t y → verdictOn t ≡ naming (verdictOn t .number) t (verdictOn t .task)
       by x y e = subst (λ (v : Verdict). v ≡ naming (v .number) t (v .task)) (sym e) refl
@@ -146,7 +109,8 @@ pub data Says (s : List ℕ) (v : Verdict) : Type 0 where
   refused : read s .outcome ≡ Read → v .number ≡ 20 → Refuses (read s .table) v → Says s v
   accepted : read s .outcome ≡ Read → v .number ≡ 0 → Accepts (read s .table) v → Says s v
 
-by-outcome : (o : Outcome) (go : Unit {0} → Verdict)
+-- what reading gave: a table, or a number from 1 to 8
+pub by-outcome : (o : Outcome) (go : Unit {0} → Verdict)
     → ((o ≡ Read) × (whenRead o unread go ≡ go tt)) ⊎ ((1 ≤ number o) × (number o ≤ 8) × (whenRead o unread go ≡ unread o))
 unfolding number
 by-outcome Read go = inl (refl, refl)

@@ -1,14 +1,16 @@
 -- What the code works on, for the contracts of its parts: the measures of a table's tasks, a row of sixteen for each.
 use mathlib.Core.Path.{_≡_}
+use mathlib.Core.List.{List}
 use Prim.Native.Nat.{ℕ, _<_}
-use lib.ListN.{getD}
+use lib.ListN.{length, getD}
+use Rattle.chains.specs.Chains.{chainOf}
 use Rattle.table.specs.declared.Table.{Table}
 use Rattle.table.specs.Memory.{D, T}
 use Rattle.table.specs.Good.{GoodTable}
 use Rattle.verdict.specs.declared.Measures.{Measures}
 use Rattle.verdict.specs.declared.Decided.{Decided}
 use Rattle.verdict.specs.declared.Verdict.{Verdict}
-use Rattle.verdict.specs.Verdicts.{vol, len, upTo}
+use Rattle.verdict.specs.Verdicts.{vol, len, inPlaces, upTo}
 
 pub record Holds (t : Table) (x : Measures) : Type 0 where
   pub m-is : x .m ≡ t .m
@@ -29,3 +31,14 @@ OfGood x = (t : Table) × GoodTable t × Holds t x
 -- a verdict on a table without its chain, which is looked for when the task is known
 unfoldable pub decided : Verdict → Decided
 decided v = record { number = v .number; task = v .task; margin = v .margin }
+
+-- the same with the chain of its task, whose successors and costs lie in memory
+unfoldable pub withChain : Decided → List ℕ → List ℕ → Verdict
+withChain d succ own = record {
+  number = d .number;
+  place = 0;
+  task = d .task;
+  margin = d .margin;
+  count = length (chainOf succ own);
+  chain = inPlaces (chainOf succ own);
+}

@@ -1,16 +1,14 @@
 // The figures of a table's tasks: vol, len, due and margin. Document 01, "The verdict".
 ghost use mathlib.Core.Path.{_≡_};
-ghost use Prim.Native.Nat.{ℕ, _+_, _*_, _-_, _^_, _≤_, _<_};
-ghost use lib.ListN.{getD};
+ghost use Prim.Native.Nat.{ℕ, _+_, _*_, _-_, _^_, _≤_, _<_, min};
+ghost use lib.ListN.{length, getD};
 ghost use lib.IntN.{pos, _-ℤ_};
 ghost use Rattle.graph.specs.Words.{sum, row};
 ghost use Rattle.graph.specs.Graph.{longestOf};
-ghost use Rattle.chains.specs.Chains.{answered};
 ghost use Rattle.table.specs.Good.{GoodTable};
-ghost use Rattle.verdict.specs.Verdicts.{len, roundedUp, chain};
+ghost use Rattle.verdict.specs.Verdicts.{roundedUp};
 ghost use Rattle.verdict.specs.Measured.{Holds};
 use crate::Measures;
-use chains::ChainFound;
 use table::Table;
 
 // A number of 32 bits in 64.
@@ -34,12 +32,21 @@ fn vol_of(costs: &[u32; 256], i: usize, v: usize) -> u64
     total
 }
 
-// Task i's own sixteen costs.
-fn own_costs(costs: &[u32; 256], i: usize) -> [u32; 16]
-    requires { ⌜ i < 16 ⌝ }
+// How many numbers there are.
+fn size(s: &[u32]) -> usize
+    ensures { λ r. ⌜ r ≡ length (now (s .entry)) ⌝ }
+{
+    s.len()
+}
+
+// Task i's own sixteen costs: zeros where there is no such task.
+pub fn own_costs(costs: &[u32; 256], i: usize) -> [u32; 16]
     ensures { λ r. ⌜ r ≡ row 16 (λ u. getD (now (costs .entry)) (16 * i + u) 0) ⌝ }
 {
     let mut own = [0u32; 16];
+    if size(costs) / 16 <= i {
+        return own;
+    }
     let mut u: usize = 0;
     while u < 16 {
         own[u] = costs[16 * i + u];
@@ -48,24 +55,25 @@ fn own_costs(costs: &[u32; 256], i: usize) -> [u32; 16]
     own
 }
 
+// The sum of sixteen costs.
+pub fn total_of(own: [u32; 16]) -> u64
+    ensures { λ r. ⌜ r ≡ sum 16 (λ u. getD own u 0) ⌝ }
+{
+    let mut total: u64 = 0;
+    let mut u: usize = 0;
+    while u < 16 {
+        total += wide(own[u]);
+        u += 1;
+    }
+    total
+}
+
 // The longest chain of task i, whose successors are given.
-fn len_of(costs: &[u32; 256], i: usize, succ: [u16; 16]) -> u64
-    requires { ⌜ i < 16 ⌝ }
+pub fn len_of(costs: &[u32; 256], i: usize, succ: [u16; 16]) -> u64
     ensures { λ r. ⌜ r ≡ longestOf succ (row 16 (λ u. getD (now (costs .entry)) (16 * i + u) 0)) ⌝ }
 {
     let own = own_costs(costs, i);
     graph::longest(succ, own)
-}
-
-// The longest chain by name of a good table's task.
-pub(crate) fn chain_of(t: Table, k: usize) -> ChainFound
-    requires { ⌜ GoodTable t × (k < t .n) ⌝ }
-    ensures { λ r. ⌜ r ≡ answered (len t k) (chain t k) ⌝ }
-{
-    let x = t.tasks[k];
-    let succ = x.succ;
-    let own = own_costs(&t.costs, k);
-    chains::longest_chain(succ, own)
 }
 
 // The measures of a good table.
@@ -128,10 +136,32 @@ fn less(a: u64, b: u64) -> i64
     (a as i64) - (b as i64)
 }
 
-// m times d, less (m minus 1) times len, less due: one signed subtraction.
-pub(crate) fn margin_of(m: u64, d: u64, len: u64, due: u64) -> i64
-    requires { ⌜ (1 ≤ m) × (m ≤ 8) × (d ≤ 1000000) × (len ≤ 16000000) × (due ≤ 240000016000000) ⌝ }
-    ensures { λ r. ⌜ r ≡ pos (m * d) -ℤ pos ((m - 1) * len + due) ⌝ }
+// The smaller of x and 2 ^ 53, which no figure of a table reaches: with it no product below wraps, whatever is asked.
+fn at_most(x: u64) -> u64
+    ensures { λ r. ⌜ r ≡ min x (2 ^ 53) ⌝ }
 {
-    less(m * d, (m - 1) * len + due)
+    if x < 9_007_199_254_740_992 {
+        return x;
+    }
+    9_007_199_254_740_992
+}
+
+// m minus 1, and 0 of 0.
+fn one_less(m: u8) -> u64
+    ensures { λ r. ⌜ (r ≡ m - 1) × (r ≤ 254) ⌝ }
+{
+    if m == 0 {
+        return 0;
+    }
+    (m - 1) as u64
+}
+
+// m times d, less (m minus 1) times len, less due: one signed subtraction.
+pub fn margin_from(m: u8, d: u32, len: u64, due: u64) -> i64
+    ensures { λ r. ⌜ r ≡ pos (m * d) -ℤ pos ((m - 1) * min len (2 ^ 53) + min due (2 ^ 53)) ⌝ }
+{
+    let fewer = one_less(m);
+    let chain = at_most(len);
+    let work = at_most(due);
+    less((m as u64) * wide(d), fewer * chain + work)
 }

@@ -37,7 +37,7 @@ fn findings_on(t: Table) -> Findings
     let x = figuring::measures(t);
     let dues = dues_of(x);
     let d = judging::judged(x);
-    let verdict = judging::with_chain(t, d);
+    let verdict = judging::chained(t, d);
     let deadlines = x.deadlines;
     let vols = x.vols;
     let lens = x.lens;
@@ -53,8 +53,8 @@ fn findings_on(t: Table) -> Findings
     }
 }
 
-// None.
-fn no_findings(o: Outcome) -> Findings
+// None, of a file that reading refuses.
+pub fn no_findings(o: Outcome) -> Findings
     ensures { λ r. ⌜ r ≡ noFindings o ⌝ }
 {
     let verdict = judging::unread(o);

@@ -2,7 +2,7 @@
 ghost use mathlib.Core.Path.{_≡_};
 ghost use Rattle.table.specs.Good.{GoodTable};
 ghost use Rattle.verdict.specs.Verdicts.{verdictOn, unread, verdict, noFigures, figures};
-ghost use Rattle.verdict.specs.Measured.{Holds, OfGood, decided};
+ghost use Rattle.verdict.specs.Measured.{Holds, OfGood, decided, withChain};
 use crate::Decided;
 use crate::Figures;
 use crate::Measures;
@@ -26,11 +26,12 @@ pub(crate) fn judged(x: Measures) -> Decided
         let d = x.deadlines[k];
         let len = x.lens[k];
         let due = figuring::due_of(n, d, periods, vols);
-        let z = figuring::margin_of(x.m as u64, d as u64, len, due);
+        let z = figuring::margin_from(x.m, d, len, due);
         if z < 0 {
+            let first = k as u8;
             return Decided {
                 number: 20,
-                task: k as u8,
+                task: first,
                 margin: z,
             };
         }
@@ -47,12 +48,11 @@ pub(crate) fn judged(x: Measures) -> Decided
     }
 }
 
-// The verdict on a good table when its task is known: that task's chain is looked for, and no other's.
-pub(crate) fn with_chain(t: Table, d: Decided) -> Verdict
-    requires { ⌜ GoodTable t × (d ≡ decided (verdictOn t)) ⌝ }
-    ensures { λ r. ⌜ r ≡ verdictOn t ⌝ }
+// A verdict that is decided, with the longest chain of its task, whose successors and costs are given.
+pub fn with_chain(d: Decided, succ: [u16; 16], own: [u32; 16]) -> Verdict
+    ensures { λ r. ⌜ r ≡ withChain d succ own ⌝ }
 {
-    let c = figuring::chain_of(t, d.task as usize);
+    let c = chains::longest_chain(succ, own);
     let chain = c.vertices;
     Verdict {
         number: d.number,
@@ -64,6 +64,18 @@ pub(crate) fn with_chain(t: Table, d: Decided) -> Verdict
     }
 }
 
+// The verdict on a good table when its task is known: that task's chain is looked for, and no other's.
+pub(crate) fn chained(t: Table, d: Decided) -> Verdict
+    requires { ⌜ GoodTable t × (d ≡ decided (verdictOn t)) ⌝ }
+    ensures { λ r. ⌜ r ≡ verdictOn t ⌝ }
+{
+    let k = d.task as usize;
+    let x = t.tasks[k];
+    let succ = x.succ;
+    let own = figuring::own_costs(&t.costs, k);
+    with_chain(d, succ, own)
+}
+
 // The verdict on a good table.
 fn verdict_on(t: Table) -> Verdict
     requires { ⌜ GoodTable t ⌝ }
@@ -71,11 +83,11 @@ fn verdict_on(t: Table) -> Verdict
 {
     let x = figuring::measures(t);
     let d = judged(x);
-    with_chain(t, d)
+    chained(t, d)
 }
 
 // What a file that reading refuses gets.
-pub(crate) fn unread(o: Outcome) -> Verdict
+pub fn unread(o: Outcome) -> Verdict
     ensures { λ r. ⌜ r ≡ unread o ⌝ }
 {
     let number = table::number(o);
@@ -133,7 +145,7 @@ pub fn figures_of(bytes: &[u8], task: u8) -> Figures
     let vol = x.vols[k];
     let len = x.lens[k];
     let due = figuring::due_of(x.n as usize, d, x.periods, x.vols);
-    let margin = figuring::margin_of(x.m as u64, d as u64, len, due);
+    let margin = figuring::margin_from(x.m, d, len, due);
     Figures {
         found: true,
         vol: vol,

@@ -7,7 +7,7 @@ use std::process::ExitCode;
 
 const USAGE: &str = "vectors read FILE_IN FILE_OUT     write cases and answers for the reader
 vectors write FILE_IN FILE_OUT    write cases and answers for the writer
-vectors verdict FILE_IN FILE_OUT  write cases and answers for the verdict and the report
+vectors verdict FILE_IN FILE_OUT  write cases and answers for both verdicts and their reports
 vectors watch FILE_IN FILE_OUT    write cases and answers for the watch program
 vectors journal FILE_IN FILE_OUT  write cases and answers for the judge
 vectors judge FILE_IN FILE_OUT    write an input of the judge program and its line
@@ -16,37 +16,54 @@ vectors check-read FILE_IN FILE_OUT, and so check-write, check-verdict, check-wa
 
 const SEED: u64 = 1;
 
+/// A kind of recorded cases: its word, the stream of its cases, and what
+/// answers a stream.
+struct Kind {
+    word: &'static str,
+    stream: fn() -> Vec<u8>,
+    answers: Answers,
+}
+
+const KINDS: [Kind; 6] = [
+    Kind {
+        word: "read",
+        stream: || read_stream(&read_cases(SEED)),
+        answers: reads,
+    },
+    Kind {
+        word: "write",
+        stream: || write_stream(&write_cases(SEED)),
+        answers: writes,
+    },
+    Kind {
+        word: "verdict",
+        stream: || verdict_stream(&both_cases(SEED)),
+        answers: verdicts,
+    },
+    Kind {
+        word: "watch",
+        stream: || read_stream(&watch_cases(SEED)),
+        answers: watches,
+    },
+    Kind {
+        word: "journal",
+        stream: || journal_stream(&journal_cases(SEED)),
+        answers: journals,
+    },
+    Kind {
+        word: "judge",
+        stream: || late_miss(&mut Random::new(SEED), 4_000),
+        answers: judged,
+    },
+];
+
 fn main() -> ExitCode {
     let words: Vec<String> = std::env::args().skip(1).collect();
-    let words: Vec<&str> = words.iter().map(String::as_str).collect();
-    let done = match words[..] {
-        ["read", cases, answers] => record(read_stream(&read_cases(SEED)), reads, cases, answers),
-        ["write", cases, answers] => {
-            record(write_stream(&write_cases(SEED)), writes, cases, answers)
-        }
-        ["verdict", cases, answers] => {
-            let files = verdict_cases(SEED);
-            record(verdict_stream(&files), verdicts, cases, answers)
-        }
-        ["watch", cases, answers] => {
-            record(read_stream(&watch_cases(SEED)), watches, cases, answers)
-        }
-        ["journal", cases, answers] => {
-            let found = journal_cases(SEED);
-            record(journal_stream(&found), journals, cases, answers)
-        }
-        ["judge", cases, answers] => {
-            let input = late_miss(&mut Random::new(SEED), 4_000);
-            record(input, judged, cases, answers)
-        }
-        ["check-read", cases, answers] => check(reads, cases, answers),
-        ["check-write", cases, answers] => check(writes, cases, answers),
-        ["check-verdict", cases, answers] => check(verdicts, cases, answers),
-        ["check-watch", cases, answers] => check(watches, cases, answers),
-        ["check-journal", cases, answers] => check(journals, cases, answers),
-        ["check-judge", cases, answers] => check(judged, cases, answers),
-        _ => Err(String::from(USAGE)),
+    let done = match &words[..] {
+        [word, cases, answers] => done(word, cases, answers),
+        _ => None,
     };
+    let done = done.unwrap_or(Err(String::from(USAGE)));
     match done {
         Ok(said) => {
             println!("{said}");
@@ -57,6 +74,17 @@ fn main() -> ExitCode {
             ExitCode::FAILURE
         }
     }
+}
+
+/// Records cases of a kind, or checks recorded ones; None for an unknown word.
+fn done(word: &str, cases: &str, answers: &str) -> Option<Result<String, String>> {
+    let plain = word.strip_prefix("check-").unwrap_or(word);
+    let kind = KINDS.iter().find(|kind| kind.word == plain)?;
+    Some(if plain == word {
+        record((kind.stream)(), kind.answers, cases, answers)
+    } else {
+        check(kind.answers, cases, answers)
+    })
 }
 
 /// The text of a stream's answers and a summary; None if it is malformed.
@@ -71,7 +99,11 @@ fn writes(stream: &[u8]) -> Option<(String, String)> {
 }
 
 fn verdicts(stream: &[u8]) -> Option<(String, String)> {
-    answer_verdicts(stream).map(|found| (verdict_text(&found), verdict_summary(&found)))
+    let found = answer_verdicts(stream)?;
+    let of =
+        |pick: fn(&Both) -> Judged| verdict_summary(&found.iter().map(pick).collect::<Vec<_>>());
+    let said = format!("{}; sharp: {}", of(|both| both.old), of(|both| both.sharp));
+    Some((verdict_text(&found), said))
 }
 
 fn watches(stream: &[u8]) -> Option<(String, String)> {
@@ -127,27 +159,26 @@ fn summary(found: &[Expected]) -> String {
 }
 
 fn verdict_summary(found: &[Judged]) -> String {
+    let of = |number: u8| {
+        let with = found.iter().map(|answer| answer.verdict);
+        with.filter(move |verdict| verdict.number == number)
+    };
     let mut said = format!("{} cases; number:count", found.len());
-    for number in 0..=21 {
-        let count = (found
-            .iter()
-            .filter(|answer| answer.verdict.number == number))
-        .count();
-        if count > 0 {
-            said += &format!(" {number}:{count}");
-        }
+    for number in (0..=23).filter(|number| of(*number).count() > 0) {
+        said += &format!(" {number}:{}", of(number).count());
     }
-    for (number, word) in [(0, "accepted"), (20, "refused")] {
-        let with = || {
-            found
-                .iter()
-                .filter(|answer| answer.verdict.number == number)
-        };
-        let near = with().filter(|answer| answer.verdict.margin.abs() < 10);
-        said += &format!("; {word} margins within 9 of 0: {}, by task", near.count());
+    for number in [0, 20, 22, 23] {
+        if of(number).count() == 0 {
+            continue;
+        }
+        let near = of(number).filter(|verdict| verdict.margin.abs() < 10);
+        said += &format!(
+            "; margins of {number} within 9 of 0: {}, by task",
+            near.count()
+        );
         for task in 0..16 {
-            let count = with().filter(|answer| answer.verdict.task == task).count();
-            said += &format!(" {count}");
+            let here = of(number).filter(|verdict| verdict.task == task);
+            said += &format!(" {}", here.count());
         }
     }
     said

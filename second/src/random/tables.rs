@@ -4,7 +4,7 @@
 use super::Random;
 use crate::graph::first;
 use crate::table::*;
-use crate::verdict::judge;
+use crate::verdict::{Way, OLD};
 
 /// The first v numbers in any order.
 fn shuffled(r: &mut Random, v: usize) -> [usize; ENTRIES] {
@@ -152,6 +152,11 @@ pub fn largest_table(r: &mut Random) -> Table {
 /// A valid table near the verdict's edge: about half are accepted, and many
 /// named margins are near 0. D and T lie about `scale`.
 pub fn near_edge(r: &mut Random, n: usize, most: usize, scale: u32) -> Table {
+    near_edge_of(r, &OLD, n, most, scale)
+}
+
+/// The same of any way of judging.
+pub fn near_edge_of(r: &mut Random, way: &Way, n: usize, most: usize, scale: u32) -> Table {
     let mut table = table_sized(r, n, most);
     table.costs = table.costs.map(|cost| cost.min(1));
     let mut scale = scale;
@@ -162,7 +167,7 @@ pub fn near_edge(r: &mut Random, n: usize, most: usize, scale: u32) -> Table {
             let loose = r.range(task.deadline, upto);
             task.period = if r.coin() { task.deadline } else { loose };
         }
-        if judge(&table).number == 0 || scale == MOST_TICKS {
+        if way.judge(&table).number == 0 || scale == MOST_TICKS {
             break;
         }
         scale = MOST_TICKS.min(scale * 2);
@@ -170,31 +175,41 @@ pub fn near_edge(r: &mut Random, n: usize, most: usize, scale: u32) -> Table {
     for _ in 0..n + 4 {
         let i = r.below(n);
         let at = ENTRIES * i + r.below(usize::from(table.tasks[i].v));
-        let room = room(&mut table, at);
+        let room = room(way, &mut table, at);
         table.costs[at] += if r.one_in(3) { room } else { r.range(0, room) };
     }
     let i = r.below(n);
     let at = ENTRIES * i + r.below(usize::from(table.tasks[i].v));
     let over = u32::from(r.coin()) * r.range(1, 2);
-    let filled = table.costs[at] + room(&mut table, at) + over;
+    let filled = table.costs[at] + room(way, &mut table, at) + over;
     table.costs[at] = filled.min(MOST_TICKS);
     table
 }
 
-/// By how much this cost can grow so that the table stays accepted.
-pub fn room(table: &mut Table, at: usize) -> u32 {
+/// By how much this cost can grow so that the table stays accepted, and one
+/// tick more is refused.
+pub fn room(way: &Way, table: &mut Table, at: usize) -> u32 {
     let was = table.costs[at];
-    let (mut good, mut bad) = (0, MOST_TICKS - was + 1);
+    let good = last_good(MOST_TICKS - was, |more| {
+        table.costs[at] = was + more;
+        way.judge(table).number == 0
+    });
+    table.costs[at] = was;
+    good
+}
+
+/// A number of ticks up to `most` that is good, while one more is not; 0 counts
+/// as good, and more than `most` as not.
+pub fn last_good(most: u32, mut is_good: impl FnMut(u32) -> bool) -> u32 {
+    let (mut good, mut bad) = (0, most + 1);
     while bad - good > 1 {
         let middle = good + (bad - good) / 2;
-        table.costs[at] = was + middle;
-        if judge(table).number == 0 {
+        if is_good(middle) {
             good = middle;
         } else {
             bad = middle;
         }
     }
-    table.costs[at] = was;
     good
 }
 

@@ -1,9 +1,10 @@
 //! Cases for the verdict and the report.
 
-use crate::examples::{plain_task, table_marks, table_p5, TABLE_A};
+use crate::examples::{plain_task, table_lowest, table_marks, table_p5, TABLE_A};
 use crate::random::*;
 use crate::reader::read;
 use crate::table::*;
+use crate::verdict::{Way, OLD};
 
 /// A number of ticks near another, within its range.
 fn near(r: &mut Random, ticks: u32) -> u32 {
@@ -28,7 +29,7 @@ fn nudge(r: &mut Random, table: &mut Table) {
 
 /// Files about a table: itself, then one number at a time, of itself or of the
 /// last one.
-fn about(r: &mut Random, base: &Table, count: usize, cases: &mut Vec<Vec<u8>>) {
+pub fn about(r: &mut Random, base: &Table, count: usize, cases: &mut Vec<Vec<u8>>) {
     cases.push(file(base));
     let mut table = *base;
     for _ in 0..count {
@@ -40,14 +41,14 @@ fn about(r: &mut Random, base: &Table, count: usize, cases: &mut Vec<Vec<u8>>) {
     }
 }
 
-/// Near the verdict's edge, for every task count.
-fn edge_cases(r: &mut Random, cases: &mut Vec<Vec<u8>>) {
+/// Near the verdict's edge, for every task count; `each` neighbours of each.
+pub fn edge_cases(r: &mut Random, way: &Way, each: usize, cases: &mut Vec<Vec<u8>>) {
     for n in 1..=ENTRIES {
         for most in [1, 2, 4, 6] {
             let scale = r.pick(&[20, 200, 5_000, 300_000, MOST_TICKS]);
             let most = if n > 8 { most.min(3) } else { most };
-            let table = near_edge(r, n, most, scale);
-            about(r, &table, 20, cases);
+            let table = near_edge_of(r, way, n, most, scale);
+            about(r, &table, each, cases);
         }
     }
 }
@@ -55,7 +56,7 @@ fn edge_cases(r: &mut Random, cases: &mut Vec<Vec<u8>>) {
 /// A valid table whose smallest margin is task k's: the others have twice its
 /// deadline or more, and no period is below a deadline. Then a cost of task k
 /// that brings its margin to 0 or just above, and larger ones.
-fn task_cases(r: &mut Random, cases: &mut Vec<Vec<u8>>) {
+pub fn task_cases(r: &mut Random, way: &Way, cases: &mut Vec<Vec<u8>>) {
     for n in [2, 3, 5, 16] {
         for k in 0..n {
             let mut table = table_sized(r, n, 2);
@@ -70,7 +71,7 @@ fn task_cases(r: &mut Random, cases: &mut Vec<Vec<u8>>) {
                 }
             }
             table.tasks[k].deadline = close;
-            table.costs[ENTRIES * k] += room(&mut table, ENTRIES * k);
+            table.costs[ENTRIES * k] += room(way, &mut table, ENTRIES * k);
             for _ in 0..4 {
                 cases.push(file(&table));
                 table.costs[ENTRIES * k] += 1;
@@ -82,14 +83,12 @@ fn task_cases(r: &mut Random, cases: &mut Vec<Vec<u8>>) {
 }
 
 /// The ends of the margin's range and of each number's.
-fn extreme_cases(cases: &mut Vec<Vec<u8>>) {
+pub fn extreme_cases(cases: &mut Vec<Vec<u8>>) {
     let p5 = read(&table_p5()).table;
     for m in 1..=8 {
         cases.push(file(&Table { m, ..p5 }));
     }
-    // The lowest margin: P5 with task 0 one chain.
-    let mut lowest = p5;
-    lowest.tasks[0].succ = std::array::from_fn(|h| (2u32 << h) as u16);
+    let lowest = table_lowest();
     for m in 1..=8 {
         cases.push(file(&Table { m, ..lowest }));
     }
@@ -143,7 +142,7 @@ fn roomy_cases(r: &mut Random, cases: &mut Vec<Vec<u8>>) {
 }
 
 /// Files of every size and density, the largest among them.
-fn sized_cases(r: &mut Random, cases: &mut Vec<Vec<u8>>) {
+pub fn sized_cases(r: &mut Random, cases: &mut Vec<Vec<u8>>) {
     for _ in 0..12 {
         let table = table(r);
         about(r, &table, 6, cases);
@@ -154,18 +153,29 @@ fn sized_cases(r: &mut Random, cases: &mut Vec<Vec<u8>>) {
 
 /// Files that reading refuses, and what damage leaves readable.
 fn refused_cases(r: &mut Random, cases: &mut Vec<Vec<u8>>) {
+    cut_and_changed(r, 4, cases);
+    damaged_cases(r, 200, cases);
+    cyclic_cases(r, 60, cases);
+}
+
+/// Table A cut short everywhere, longer, and with each byte changed.
+pub fn cut_and_changed(r: &mut Random, times: usize, cases: &mut Vec<Vec<u8>>) {
     cases.extend((1..TABLE_A.len()).map(|end| TABLE_A[..end].to_vec()));
     let mut longer = TABLE_A.to_vec();
     longer.push(0);
     cases.push(longer);
     for at in 0..TABLE_A.len() {
-        for _ in 0..4 {
+        for _ in 0..times {
             let mut case = TABLE_A.to_vec();
             case[at] = r.pick(&[0, 1, 2, 3, 5, 9, 17, 121, 255]);
             cases.push(case);
         }
     }
-    for _ in 0..200 {
+}
+
+/// Damaged files.
+pub fn damaged_cases(r: &mut Random, count: usize, cases: &mut Vec<Vec<u8>>) {
+    for _ in 0..count {
         let n = r.below(3) + 1;
         let table = near_edge(r, n, 4, 60);
         let mut case = file(&table);
@@ -175,7 +185,11 @@ fn refused_cases(r: &mut Random, cases: &mut Vec<Vec<u8>>) {
         }
         cases.push(case);
     }
-    for _ in 0..60 {
+}
+
+/// Files with a task of three vertices in a ring.
+pub fn cyclic_cases(r: &mut Random, count: usize, cases: &mut Vec<Vec<u8>>) {
+    for _ in 0..count {
         let mut table = near_edge(r, 2, 4, 60);
         let i = r.below(2);
         table.tasks[i].v = 3;
@@ -195,8 +209,8 @@ pub fn verdict_cases(seed: u64) -> Vec<Vec<u8>> {
     one[2] = 1;
     cases.push(one);
     about(r, &table_marks(), 40, &mut cases);
-    edge_cases(r, &mut cases);
-    task_cases(r, &mut cases);
+    edge_cases(r, &OLD, 20, &mut cases);
+    task_cases(r, &OLD, &mut cases);
     extreme_cases(&mut cases);
     roomy_cases(r, &mut cases);
     sized_cases(r, &mut cases);

@@ -1,9 +1,10 @@
-//! The stream of cases for the verdict and the report, and the answers.
+//! The stream of cases for both verdicts and their reports, and the answers.
 
 use super::{put_bytes, take, take_bytes};
-use crate::report::report;
+use crate::report::report_by;
+use crate::sharp::SHARP;
 use crate::sum::fnv;
-use crate::verdict::{verdict, Verdict};
+use crate::verdict::{Verdict, Way, OLD};
 
 /// One line of an answer: the verdict, and the report's length and checksum.
 #[derive(Clone, Copy, PartialEq, Eq, Debug)]
@@ -13,14 +14,21 @@ pub struct Judged {
     pub sum: u32,
 }
 
-/// A file's line.
-pub fn judged(bytes: &[u8]) -> Judged {
-    let text = report(bytes);
+/// A file's line by a way of judging.
+pub fn judged(way: &Way, bytes: &[u8]) -> Judged {
+    let text = report_by(way, bytes);
     Judged {
-        verdict: verdict(bytes),
+        verdict: way.verdict(bytes),
         length: text.len(),
         sum: fnv(&text),
     }
+}
+
+/// The answer to a case: of the old verdict and of the sharp one.
+#[derive(Clone, Copy, PartialEq, Eq, Debug)]
+pub struct Both {
+    pub old: Judged,
+    pub sharp: Judged,
 }
 
 /// The stream of files: each as its length and bytes, or as length 0 and the
@@ -61,8 +69,8 @@ fn changes(before: &[u8], file: &[u8]) -> Option<Vec<(u16, u8)>> {
     (list.len() < 256).then_some(list)
 }
 
-/// Answers a stream of cases for the verdict; None if it is malformed.
-pub fn answer_verdicts(stream: &[u8]) -> Option<Vec<Judged>> {
+/// Answers a stream of cases; None if it is malformed.
+pub fn answer_verdicts(stream: &[u8]) -> Option<Vec<Both>> {
     let mut rest = stream;
     let mut file = Vec::new();
     let mut answers = Vec::new();
@@ -77,15 +85,19 @@ pub fn answer_verdicts(stream: &[u8]) -> Option<Vec<Judged>> {
             let [byte] = take(&mut rest)?;
             *file.get_mut(at)? = byte;
         }
-        answers.push(judged(&file));
+        answers.push(Both {
+            old: judged(&OLD, &file),
+            sharp: judged(&SHARP, &file),
+        });
     }
     Some(answers)
 }
 
 /// The text of answers: NUMBER PLACE TASK MARGIN COUNT CHAIN LENGTH SUM in
-/// decimal, a line a case.
-pub fn verdict_text(answers: &[Judged]) -> String {
-    let lines = answers.iter().map(|answer| {
+/// decimal, two lines a case, the old verdict's first.
+pub fn verdict_text(answers: &[Both]) -> String {
+    let each = answers.iter().flat_map(|both| [both.old, both.sharp]);
+    let lines = each.map(|answer| {
         let Verdict {
             number,
             place,

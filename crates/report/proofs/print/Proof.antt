@@ -2,7 +2,7 @@
 use native.Mathlib.Omega.{arith}
 use lib.ListN.{length-take}
 use borrow.Author.Needs.{needs}
-use Rattle.reports.proofs.Reported.{report-long, report-within}
+use Rattle.reports.proofs.Reported.{report-most, report-long, report-within}
 use Rattle.report.proofs.print.Statement.{statement}
 use Rattle.report.proofs.print.Tie as tie
 
@@ -10,12 +10,12 @@ report-of-requires : tie.Need-report-of-requires
 report-of-requires c κs = search needs
 
 array-share-prefix-words : tie.Need-array-share-prefix-words
-array-share-prefix-words c = let r = c .before .report-of in omega (arith, report-within _ (r .result) (r .ensures), report-long _ (r .result) (r .ensures))
+array-share-prefix-words c = let r = c .before .report-of in omega (arith, report-within _ (report-most _) (r .result) (r .ensures), report-long _ (report-most _) (r .result) (r .ensures))
 
 slice-aggregate-write-all : tie.Need-slice-aggregate-write-all
 slice-aggregate-write-all c =
     let r = c .before .before .report-of in
-    omega (arith, report-within _ (r .result) (r .ensures), report-long _ (r .result) (r .ensures), length-take (r .result .len) (r .result .bytes))
+    omega (arith, report-within _ (report-most _) (r .result) (r .ensures), report-long _ (report-most _) (r .result) (r .ensures), length-take (r .result .len) (r .result .bytes))
 
 write-all-requires : tie.Need-write-all-requires
 write-all-requires c κs = search needs

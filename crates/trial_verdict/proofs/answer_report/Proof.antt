@@ -5,17 +5,11 @@ use borrow.Author.Needs.{needs}
 use Rattle.trial_verdict.proofs.answer_report.Statement.{statement}
 use Rattle.trial_verdict.proofs.answer_report.Tie as tie
 
-report-into-requires : tie.Need-report-into-requires
-report-into-requires c κs = search needs
-
 smaller-requires : tie.Need-smaller-requires
 smaller-requires c κs = search needs
 
 print-next-requires : tie.Need-print-next-requires
 print-next-requires c κs = search needs
-
-slice-reshare-prefix-sum-of : tie.Need-slice-reshare-prefix-sum-of
-slice-reshare-prefix-sum-of c = search needs
 
 slice-aggregate-sum-of : tie.Need-slice-aggregate-sum-of
 slice-aggregate-sum-of c = simp length-take (omega arith)
@@ -26,8 +20,11 @@ sum-of-requires c κs = search needs
 print-next-requires-2 : tie.Need-print-next-requires-2
 print-next-requires-2 c κs = search needs
 
-same-length : tie.Need-same-length
-same-length c = search needs
+slice-aggregate-write-all : tie.Need-slice-aggregate-write-all
+slice-aggregate-write-all c = search needs
+
+write-all-requires : tie.Need-write-all-requires
+write-all-requires c κs = search needs
 
 returns : tie.Need-returns
 returns c = search needs
@@ -36,12 +33,11 @@ pub answer-report-spec : {M : Type 1} → statement M
 answer-report-spec =
     tie.close
     (tie.spec
-    report-into-requires
     smaller-requires
     print-next-requires
-    slice-reshare-prefix-sum-of
     slice-aggregate-sum-of
     sum-of-requires
     print-next-requires-2
-    same-length
+    slice-aggregate-write-all
+    write-all-requires
     returns)

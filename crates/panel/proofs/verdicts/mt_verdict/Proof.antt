@@ -1,20 +1,18 @@
--- `mt_verdict` meets its contract: the number, the task, the place, the margin and the chain of the verdict.
-use mathlib.Core.Path.{sym}
-use mir.Syntax.{w64}
-use mir.Facts.{toZ-ofZ}
+-- `mt_verdict` meets its contract: the verdict, as it crosses.
+use mathlib.Core.Path.{ap, _∙_}
 use borrow.Author.Needs.{needs}
+use Rattle.panel.specs.Answers.{verdictFace}
 use Rattle.panel.proofs.verdicts.mt_verdict.Statement.{statement}
 use Rattle.panel.proofs.verdicts.mt_verdict.Tie as tie
-use Rattle.panel.proofs.Answers.{answers-verdict}
 
 verdict-of-requires : tie.Need-verdict-of-requires
 verdict-of-requires c κs = search needs
 
+verdict-face-requires : tie.Need-verdict-face-requires
+verdict-face-requires c κs = search needs
+
 returns : tie.Need-returns
-returns c =
-    let v = c .before .before .verdict-of in
-    let z = toZ-ofZ {w = w64} {z = v .result .margin} (record { sfits = c .struct-told .given .1 .1 .1 .0 .1 }) in
-    sym (answers-verdict _ (v .result) _ (v .ensures) z)
+returns c = c .verdict-face .ensures ∙ ap verdictFace (c .before .verdict-of .ensures)
 
 pub mt-verdict-spec : {M : Type 1} → statement M
-mt-verdict-spec = tie.close (tie.spec verdict-of-requires returns)
+mt-verdict-spec = tie.close (tie.spec verdict-of-requires verdict-face-requires returns)

@@ -4,8 +4,7 @@ use Prim.Native.Nat.{_-_, _≤_, _<_}
 use native.Mathlib.Omega.{arith}
 use borrow.Author.Needs.{needs}
 use Rattle.verdict.specs.Verdicts.{vol}
-use Rattle.verdict.proofs.Figured.{Filled, filled-none, filled-next}
-use Rattle.quick.proofs.Yes.{vol-found}
+use Rattle.verdict.proofs.Figured.{Filled, filled-none, filled-next, vol-found}
 use Rattle.quick.proofs.sums.volumes.Statement.{statement}
 use Rattle.quick.proofs.sums.volumes.Tie as tie
 
@@ -22,7 +21,7 @@ cast-loop : tie.Need-cast-loop Inv-loop μ-loop
 cast-loop c = search needs
 
 own-costs-requires : tie.Need-own-costs-requires Inv-loop μ-loop
-own-costs-requires c κs = let n = c .before .before .before .before .pre .n-high in omega arith
+own-costs-requires c κs = search needs
 
 total-of-requires : tie.Need-total-of-requires Inv-loop μ-loop
 total-of-requires c κs = search needs

@@ -1,54 +1,28 @@
-use mathlib.Core.Path.{refl, ap, _∙_}
-use native.Mathlib.Omega.{arith}
-use lib.ListN.{length-take}
-use Rattle.text.specs.Laid.{laid}
-use Rattle.reports.proofs.Reported.{put-len, put-within, put-text, into-short, into-fits}
+use mathlib.Core.Path.{ap, _∙_}
+use mathlib.Core.List.{List}
+use Prim.Native.Nat.{ℕ}
+use lib.ListN.{length}
+use denote.Ref.{now}
+use Rattle.reports.specs.Report.{reportInto}
+use Rattle.reports.proofs.Reported.{old-ready, old-report}
 use borrow.Author.Needs.{needs}
 use Rattle.reports.proofs.reporting.report_into.Statement.{statement}
 use Rattle.reports.proofs.reporting.report_into.Tie as tie
 
-slice-aggregate-lines-of : tie.Need-slice-aggregate-lines-of
-slice-aggregate-lines-of c = search needs
+findings-of-requires : tie.Need-findings-of-requires
+findings-of-requires c κs = search needs
 
-lines-of-requires : tie.Need-lines-of-requires
-lines-of-requires c κs = search needs
-
-returns : tie.Need-returns
-returns c =
-    let r = c .before .before .lines-of in
-    let e = put-len _ _ _ _ refl (r .ensures) in
-    (e, into-short _ _ (omega arith))
-
-array-share-prefix-words : tie.Need-array-share-prefix-words
-array-share-prefix-words c = put-within _ _ _ _ refl (c .before .before .before .lines-of .ensures)
-
-slice-aggregate-put-bytes : tie.Need-slice-aggregate-put-bytes
-slice-aggregate-put-bytes c =
-    let r = c .before .before .before .before .lines-of in
-    omega (arith, put-within _ _ _ _ refl (r .ensures), length-take (r .result) (r .last .1 .0))
-
-put-bytes-requires : tie.Need-put-bytes-requires
-put-bytes-requires c κs = search needs
+text-into-requires : tie.Need-text-into-requires
+text-into-requires c κs = old-ready _ _ (c .before .findings-of .ensures)
 
 same-length : tie.Need-same-length
 same-length c = search needs
 
-returns-2 : tie.Need-returns-2
-returns-2 c =
-    let r = c .before .before .before .before .before .before .before .lines-of in
-    let s = c .before .before .before .before .before .before .before .before .before .before .before in
-    let e = put-len _ _ _ _ refl (r .ensures) in
-    (e, c .before .before .put-bytes .ensures ∙ ap (laid (s .args .out .now) 0) (put-text _ _ _ _ refl (r .ensures)) ∙ into-fits _ _ (omega arith))
+returns : tie.Need-returns
+returns c =
+    let r = c .before .before .text-into in
+    let e = old-report _ _ (c .before .before .before .before .findings-of .ensures) in
+    (r .ensures .0 ∙ ap length e, r .ensures .1 ∙ ap (λ (words : List ℕ). reportInto words (now (c .before .before .before .before .before .before .before .args .out))) e)
 
 pub report-into-spec : {M : Type 1} → statement M
-report-into-spec =
-    tie.close
-    (tie.spec
-    slice-aggregate-lines-of
-    lines-of-requires
-    returns
-    array-share-prefix-words
-    slice-aggregate-put-bytes
-    put-bytes-requires
-    same-length
-    returns-2)
+report-into-spec = tie.close (tie.spec findings-of-requires text-into-requires same-length returns)

@@ -1,21 +1,28 @@
 -- The loop's invariant: the costs of the vertices so far.
 use mathlib.Core.Path.{_≡_, refl}
-use Prim.Native.Nat.{_+_, _*_, _-_, _≤_}
+use Prim.Native.Nat.{_+_, _*_, _-_, _≤_, _<_}
 use native.Mathlib.Omega.{arith}
 use lib.ListN.{getD}
+use denote.Ref.{now}
+use Rattle.verdict.proofs.Figured.{Filled, filled-none, filled-next, filled-row, costs-none}
 use borrow.Author.Needs.{needs}
-use Rattle.verdict.proofs.Figured.{Filled, filled-none, filled-next, filled-row}
 use Rattle.verdict.proofs.figuring.own_costs.Statement.{statement}
 use Rattle.verdict.proofs.figuring.own_costs.Tie as tie
 
 abbrev Inv-loop : tie.InvT-loop
-Inv-loop costs i own₀ u₀ own u = (u ≤ 16) × Filled (λ x. getD costs (16 * i + x) 0) u own
+Inv-loop costs i own₀ u₀ own u = (u ≤ 16) × (i < 16) × Filled (λ x. getD costs (16 * i + x) 0) u own
 
 abbrev μ-loop : tie.MeasureT-loop
 μ-loop costs i own₀ u₀ own u = 16 - u
 
+size-requires : tie.Need-size-requires Inv-loop μ-loop
+size-requires c κs = search needs
+
+returns : tie.Need-returns Inv-loop μ-loop
+returns c = costs-none (now (c .before .before .before .args .costs)) _ (search needs) (omega arith)
+
 loop-holds : tie.Need-loop-holds Inv-loop μ-loop
-loop-holds c = (search needs, filled-none refl)
+loop-holds c = (search needs, omega arith, filled-none refl)
 
 mul-own : tie.Need-mul-own Inv-loop μ-loop
 mul-own c = search needs
@@ -42,10 +49,10 @@ loop-less : tie.Need-loop-less Inv-loop μ-loop
 loop-less c = search needs
 
 loop-again : tie.Need-loop-again Inv-loop μ-loop
-loop-again c = (search needs, filled-next _ (omega arith) refl (c .before .before .loop .inv .1))
+loop-again c = (search needs, omega arith, filled-next _ (omega arith) refl (c .before .before .loop .inv .2))
 
-returns : tie.Need-returns Inv-loop μ-loop
-returns c = let e : c .before .loop .u ≡ 16 = omega arith in filled-row (rw e at (c .before .loop .inv .1))
+returns-2 : tie.Need-returns-2 Inv-loop μ-loop
+returns-2 c = let e : c .before .loop .u ≡ 16 = omega arith in filled-row (rw e at (c .before .loop .inv .2))
 
 pub own-costs-spec : {M : Type 1} → statement M
 own-costs-spec =
@@ -53,6 +60,8 @@ own-costs-spec =
     (tie.spec
     Inv-loop
     μ-loop
+    size-requires
+    returns
     loop-holds
     mul-own
     add-own
@@ -63,4 +72,4 @@ own-costs-spec =
     add-u
     loop-less
     loop-again
-    returns)
+    returns-2)

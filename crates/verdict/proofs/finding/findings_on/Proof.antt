@@ -12,8 +12,8 @@ dues-of-requires c κs = search needs
 judged-requires : tie.Need-judged-requires
 judged-requires c κs = search needs
 
-with-chain-requires : tie.Need-with-chain-requires
-with-chain-requires c κs =
+chained-requires : tie.Need-chained-requires
+chained-requires c κs =
     let s = c .before .before .before in
     (s .pre, c .judged .ensures (s .args .t) (s .pre) (c .before .before .measures .ensures))
 
@@ -22,9 +22,9 @@ returns c =
     let s = c .before .before .before .before .before .before .before in
     let x = c .before .before .before .before .before .before .measures in
     let d = c .before .before .before .before .before .dues-of in
-    all-found (s .args .t) (x .result) (d .result) _ (x .ensures) (d .ensures (s .args .t) (s .pre) (x .ensures)) (c .before .before .before .with-chain .ensures)
+    all-found (s .args .t) (x .result) (d .result) _ (x .ensures) (d .ensures (s .args .t) (s .pre) (x .ensures)) (c .before .before .before .chained .ensures)
 
 pub findings-on-spec : {M : Type 1} → statement M
 findings-on-spec =
     tie.close
-    (tie.spec measures-requires dues-of-requires judged-requires with-chain-requires returns)
+    (tie.spec measures-requires dues-of-requires judged-requires chained-requires returns)

@@ -5,7 +5,7 @@ use denote.Ref.{now}
 use mir.Syntax.{w64}
 use mir.Val.{SFits}
 use mir.Facts.{toZ-ofZ}
-use Rattle.verdict.proofs.Figured.{few-held, held-due-ready, held-due, held-margin-ready, held-margin}
+use Rattle.verdict.proofs.Figured.{few-held, held-due-ready, held-due, held-margin}
 use Rattle.verdict.proofs.Judged.{file-laws, good-read, figures-past, figures-got, figures-are}
 use borrow.Author.Needs.{needs}
 use Rattle.verdict.proofs.judging.figures_of.Statement.{statement}
@@ -86,21 +86,8 @@ due-of-requires c κs =
     let b : a .task < r .result .table .n = omega (arith, x .ensures .n-is) in
     held-due-ready (r .result .table) g (a .task) b (x .result) (x .ensures)
 
-cast-margin-of : tie.Need-cast-margin-of
-cast-margin-of c = search needs
-
-cast-margin-of-2 : tie.Need-cast-margin-of-2
-cast-margin-of-2 c = search needs
-
-margin-of-requires : tie.Need-margin-of-requires
-margin-of-requires c κs =
-    let a = c .before .before .before .before .before .before .before .before .before .before .before .before .args in
-    let r = c .before .before .before .before .before .before .before .before .before .before .read in
-    let e = c .before .before .before .before .before .before .before .before .enum-told .given .1 in
-    let x = c .before .before .before .before .before .before .before .measures in
-    let g = good-read (now (a .bytes)) (r .result) (r .ensures) e in
-    let b : a .task < r .result .table .n = omega (arith, x .ensures .n-is) in
-    held-margin-ready (r .result .table) g (a .task) b (x .result) (x .ensures) (c .due-of .result) (held-due (r .result .table) g (a .task) b (x .result) (x .ensures) (c .due-of .result) (c .due-of .ensures))
+margin-from-requires : tie.Need-margin-from-requires
+margin-from-requires c κs = search needs
 
 returns-3 : tie.Need-returns-3
 returns-3 c =
@@ -111,7 +98,7 @@ returns-3 c =
     let g = good-read (now (a .bytes)) (r .result) (r .ensures) e in
     let b : a .task < r .result .table .n = omega (arith, x .ensures .n-is) in
     let y = c .before .due-of in
-    let z = c .margin-of in
+    let z = c .margin-from in
     let f : SFits w64 (z .result) = record { sfits = z .ok } in
     let d = held-due (r .result .table) g (a .task) b (x .result) (x .ensures) (y .result) (y .ensures) in
     let m = toZ-ofZ f ∙ held-margin (r .result .table) g (a .task) b (x .result) (x .ensures) (y .result) d (z .result) (z .ensures) in
@@ -137,7 +124,5 @@ figures-of-spec =
     element-copy-out-len
     cast-due-of
     due-of-requires
-    cast-margin-of
-    cast-margin-of-2
-    margin-of-requires
+    margin-from-requires
     returns-3)

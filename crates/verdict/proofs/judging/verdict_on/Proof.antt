@@ -8,8 +8,8 @@ measures-requires c κs = search needs
 judged-requires : tie.Need-judged-requires
 judged-requires c κs = search needs
 
-with-chain-requires : tie.Need-with-chain-requires
-with-chain-requires c κs =
+chained-requires : tie.Need-chained-requires
+chained-requires c κs =
     let s = c .before .before in
     (s .pre, c .judged .ensures (s .args .t) (s .pre) (c .before .measures .ensures))
 
@@ -17,4 +17,4 @@ returns : tie.Need-returns
 returns c = search needs
 
 pub verdict-on-spec : {M : Type 1} → statement M
-verdict-on-spec = tie.close (tie.spec measures-requires judged-requires with-chain-requires returns)
+verdict-on-spec = tie.close (tie.spec measures-requires judged-requires chained-requires returns)
