@@ -1,5 +1,5 @@
 -- Both ends of the sharp margin's range (`sharp-range` of the crate sharp) are exact: each is some file's margin. The low end's file is that of the old
--- verdict's: its sum has fifteen million terms, so it is computed by the closed form.
+-- verdict's: its sum has 240 million terms, so it is computed by the closed form.
 use mathlib.Core.Path.{_≡_, refl, sym, ap, _∙_}
 use mathlib.Core.Bool.{true}
 use mathlib.Core.List.{List, [], _∷_, _++_}
