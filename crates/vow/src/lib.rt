@@ -1,0 +1,1 @@
+// Statements and proofs only: the crate has no code.
