@@ -78,7 +78,7 @@ static int read_task(struct input *in, struct plain_task *task, uint32_t *costs)
         (number = read_byte(in, 0, MOST_EDGES, &e)) || (number = read_ticks(in, 1, &task->deadline)) ||
         (number = read_ticks(in, 1, &task->period)))
         return number;
-    if (task->deadline > task->period) {
+    if (task->deadline > PLAIN_AGES * task->period) {
         in->at -= 4;
         return 5;
     }
@@ -136,7 +136,7 @@ static int check_task(const struct plain_task *task, const uint32_t *costs, size
     *at = mark + 8;
     if (!between(task->period, 1, MOST_TICKS))
         return 4;
-    if (task->deadline > task->period)
+    if (task->deadline > PLAIN_AGES * task->period)
         return 5;
     *at = mark + 12;
     for (int h = 0; h < task->v; h++, *at += 4)

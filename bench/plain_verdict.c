@@ -121,7 +121,7 @@ static void name_chain(const struct plain_task *task, const uint32_t *costs, str
 }
 
 static struct plain_verdict name(const struct plain_table *table, const struct figures *f, int number, int k) {
-    struct plain_verdict v = {(uint8_t)number, (uint8_t)k, 0, f->margin[k], 0, {0}};
+    struct plain_verdict v = {.number = (uint8_t)number, .task = (uint8_t)k, .margin = f->margin[k]};
     memset(v.chain, PLAIN_NONE, sizeof v.chain);
     name_chain(&table->tasks[k], &table->costs[PLAIN_VERTICES * k], &v);
     return v;
@@ -146,7 +146,7 @@ SHARED struct plain_verdict whole(const uint8_t *bytes, size_t count, bool sharp
     struct figures f;
     struct plain_answer found = plain_read(bytes, count, &table);
     if (found.number != 0) {
-        struct plain_verdict v = {found.number, PLAIN_NONE, found.place, 0, 0, {0}};
+        struct plain_verdict v = {.number = found.number, .task = PLAIN_NONE, .place = found.place};
         memset(v.chain, PLAIN_NONE, sizeof v.chain);
         return v;
     }
@@ -209,7 +209,7 @@ SHARED uint8_t *say_table(uint8_t *p, const struct plain_table *table, bool shar
 }
 
 SHARED size_t text_on(const uint8_t *bytes, size_t count, bool sharp, uint8_t *buffer, size_t room) {
-    uint8_t text[PLAIN_REPORT_MOST], *end;
+    uint8_t text[PLAIN_MAX_REPORT], *end;
     struct plain_table table;
     struct plain_answer found = plain_read(bytes, count, &table);
     if (found.number == 0) {

@@ -6,62 +6,72 @@ use std::process::ExitCode;
 /// What this needs of include/milltundra.h.
 mod milltundra {
     #[repr(C)]
-    #[derive(Clone, Copy)]
     pub struct TaskState {
-        pub live: u8,
-        pub deadline: u32,
         pub wait: u32,
+        pub deadline: [u32; 4],
+        pub live: [u8; 4],
     }
 
     #[repr(C)]
-    #[derive(Clone, Copy)]
     pub struct State {
+        pub work: [u64; 64],
         pub clock: u32,
         pub stopped: u8,
         pub at: u8,
+        pub pad: [u8; 2],
         pub tasks: [TaskState; 16],
-        pub remaining: [u32; 256],
-        pub work: [u64; 16],
+        pub remaining: [u32; 1024],
     }
 
     #[repr(C)]
     pub struct OpenAnswer {
+        pub place: u64,
         pub number: u8,
         pub task: u8,
-        pub place: u64,
+        pub pad: [u8; 6],
         pub state: State,
     }
 
     #[repr(C)]
-    #[derive(Clone, Copy)]
-    pub struct Pair {
+    pub struct Triple {
         pub task: u8,
+        pub age: u8,
         pub vertex: u8,
     }
 
     #[repr(C)]
     pub struct TickAnswer {
+        pub place: u64,
         pub number: u8,
         pub task: u8,
-        pub place: u64,
-        pub ran: [Pair; 8],
         pub finished: u16,
-        pub state: State,
+        pub ran: [Triple; 8],
+        pub pad: [u8; 4],
     }
 
-    pub const DONE: u8 = 0;
-    pub const NO_TASK: u8 = 255;
-    pub const REPORT_MOST: usize = 1366;
+    pub const OK: u8 = 0;
+    pub const NONE: u8 = 255;
+    pub const MAX_REPORT: usize = 1366;
+
+    // The sizes that the header asserts.
+    const _: () = assert!(size_of::<State>() == 5000);
+    const _: () = assert!(size_of::<OpenAnswer>() == 5016);
+    const _: () = assert!(size_of::<TickAnswer>() == 40);
 
     #[link(name = "panel", kind = "static")]
     extern "C" {
         fn mt_report(bytes: *const u8, count: usize, buffer: *mut u8, room: usize) -> u64;
         fn mt_open(bytes: *const u8, count: usize, clock: u32) -> OpenAnswer;
-        fn mt_tick(bytes: *const u8, count: usize, state: State, releases: u16) -> TickAnswer;
+        fn mt_tick_in_place(
+            state: *mut State,
+            bytes: *const u8,
+            count: usize,
+            releases: u16,
+        ) -> TickAnswer;
     }
 
     // Each call is safe: the pointers and counts are those of slices, and any bytes and states get an answer.
-    pub fn report(bytes: &[u8], buffer: &mut [u8; REPORT_MOST]) -> usize {
+    pub fn report(bytes: &[u8], buffer: &mut [u8; MAX_REPORT]) -> usize {
         let room = buffer.len();
         unsafe { mt_report(bytes.as_ptr(), bytes.len(), buffer.as_mut_ptr(), room) as usize }
     }
@@ -70,8 +80,8 @@ mod milltundra {
         unsafe { mt_open(bytes.as_ptr(), bytes.len(), clock) }
     }
 
-    pub fn tick(bytes: &[u8], state: State, releases: u16) -> TickAnswer {
-        unsafe { mt_tick(bytes.as_ptr(), bytes.len(), state, releases) }
+    pub fn tick(state: &mut State, bytes: &[u8], releases: u16) -> TickAnswer {
+        unsafe { mt_tick_in_place(state, bytes.as_ptr(), bytes.len(), releases) }
     }
 }
 
@@ -90,23 +100,23 @@ fn set_text(set: u16) -> String {
 }
 
 fn print_tick(clock: u32, releases: u16, ticked: &TickAnswer) {
-    let ran = ticked.ran.iter().take_while(|pair| pair.task != NO_TASK);
-    let ran: String = ran.map(|p| format!(" {}.{}", p.task, p.vertex)).collect();
+    let ran = ticked.ran.iter().take_while(|place| place.task != NONE);
+    let words = ran.map(|t| format!(" {}.{}.{}", t.task, t.age, t.vertex));
+    let ran: String = words.collect();
     let (named, finished) = (set_text(releases), set_text(ticked.finished));
     println!("clock {clock} release{named} run{ran} finished{finished}");
 }
 
 /// Runs so many ticks, or until one is not answered 0.
-fn run(file: &[u8], mut state: State, ticks: u64) {
+fn run(file: &[u8], state: &mut State, ticks: u64) {
     for _ in 0..ticks {
-        let releases = ready(file, &state);
-        let ticked = tick(file, state, releases);
-        print_tick(state.clock, releases, &ticked);
-        if ticked.number != DONE {
+        let (clock, releases) = (state.clock, ready(file, state));
+        let ticked = tick(state, file, releases);
+        print_tick(clock, releases, &ticked);
+        if ticked.number != OK {
             println!("number {} task {}", ticked.number, ticked.task);
             return;
         }
-        state = ticked.state;
     }
 }
 
@@ -127,15 +137,15 @@ fn main() -> ExitCode {
             return ExitCode::FAILURE;
         }
     };
-    let mut text = [0; REPORT_MOST];
+    let mut text = [0; MAX_REPORT];
     let length = report(&file, &mut text);
     if std::io::stdout().write_all(&text[..length]).is_err() {
         return ExitCode::FAILURE;
     }
-    let opened = open(&file, clock);
-    if opened.number != DONE {
+    let mut opened = open(&file, clock);
+    if opened.number != OK {
         return ExitCode::FAILURE;
     }
-    run(&file, opened.state, ticks);
+    run(&file, &mut opened.state, ticks);
     ExitCode::SUCCESS
 }

@@ -4,9 +4,10 @@ pub mod plain;
 pub mod plain_check;
 pub mod ticking;
 
+use second::machine::{fits, Phase};
 use second::random::{random_edges, ticks, Random};
-use second::table::MOST_TICKS;
-use second::{Table, Task};
+use second::table::{AGES, ENTRIES, MOST_TICKS};
+use second::{State, Table, Task};
 
 /// A size of table, with some tables of it.
 pub struct Size {
@@ -67,6 +68,27 @@ pub fn accepted(r: &mut Random, table: &Table) -> Table {
     table.costs = table.costs.map(|cost| cost.min(1 + cost % 900));
     assert_eq!(second::verdict::judge(&table).number, 0);
     table
+}
+
+/// The same graphs with D four times T and costs from 2,000 on, and a state with four live jobs of each task, none of which is due or
+/// released again while it is measured.
+pub fn deep(r: &mut Random, table: &Table) -> (Table, State) {
+    let mut table = *table;
+    let mut state = State::zeros(0, Phase::Running);
+    for i in 0..usize::from(table.n) {
+        let period = r.range(MOST_TICKS / 5, MOST_TICKS / 4);
+        let oldest = r.range(period / 2, period - 1);
+        let task = &mut table.tasks[i];
+        task.period = period;
+        task.deadline = AGES as u32 * period;
+        table.costs[ENTRIES * i..][..usize::from(task.v)].fill_with(|| r.range(2_000, 9_000));
+        for age in 0..AGES {
+            state.put_job(i, age, oldest + age as u32 * period, table.costs_of(i));
+        }
+        state.tasks[i].wait = oldest;
+    }
+    assert!(fits(&table, &state));
+    (table, state)
 }
 
 /// The same graphs with deadlines and periods of very different size, so that many jobs of a task come within another's deadline; both

@@ -1,13 +1,14 @@
 //! Reads, writes, verdicts (both), reports, openings, ticks and rows of journals a second: ours beside the second program's and beside
-//! plain C's. The same inputs in one run, the sides in turn, so that other load falls on all. Buffers are not cleared in between. A ratio is ours over theirs: above 1,
-//! ours is the quicker.
+//! plain C's. The same inputs in one run, the sides in turn, so that other load falls on all. Buffers are not cleared in between. A
+//! ratio is ours over theirs: above 1, ours is the quicker.
 
-use bench::ticking::{Load, Runs};
-use bench::{accepted, plain, plain_check, refused, sizes, varied, Size};
+use bench::ticking::{flat, Load, Runs};
+use bench::{accepted, deep, plain, plain_check, refused, sizes, varied, Size};
 use compare::face;
+use second::machine::Phase;
 use second::random::{busy_rows, file, Random};
 use second::table::LARGEST;
-use second::Table;
+use second::{State, Table};
 use std::hint::black_box;
 use std::time::Instant;
 
@@ -26,11 +27,12 @@ fn main() {
     let inputs: Vec<Table> = sizes.iter().flat_map(|s| s.tables.clone()).collect();
     let good: Vec<Table> = sizes.iter().flat_map(good_tables).collect();
     let varied: Vec<Table> = sizes.iter().flat_map(varied_tables).collect();
-    plain_check::check(&[inputs, good, varied].concat());
+    let deep: Vec<Table> = sizes.iter().flat_map(|s| deep_runs(s).0).collect();
+    plain_check::check(&[inputs, good, varied, deep].concat());
     println!("a second, the best of {TURNS} turns; ours over each, and the median of that over the turns");
-    println!(
-        "{:<58}{:>10}{:>10}{:>10}{:>16}{:>16}",
-        "", "ours", "second", "plain C", "ours/second", "ours/plain C"
+    beside(
+        "",
+        ["ours", "second", "plain C", "ours/second", "ours/plain C"],
     );
     for size in &sizes {
         reading(size);
@@ -39,9 +41,27 @@ fn main() {
         judging_sharply(size);
         reporting(size);
         opening(size);
-        ticking(size, Load::One);
-        ticking(size, Load::All);
+        for load in [Load::One, Load::All] {
+            let name = format!("{}, {}", size.name, load.name());
+            ticking(&name, load, &good_tables(size), &opened());
+        }
+        let (tables, states) = deep_runs(size);
+        let name = format!("{}, all 4 deep", size.name);
+        ticking(&name, Load::All, &tables, &states);
         journals(size);
+    }
+    beside(
+        "ticks by value",
+        [
+            "ours",
+            "in place",
+            "plain C",
+            "ours/in place",
+            "ours/plain C",
+        ],
+    );
+    for size in &sizes {
+        by_value(size);
     }
     beside_the_verdict("the quick answer");
     for size in &sizes {
@@ -55,10 +75,15 @@ fn main() {
 
 /// The heading of lines that have our own verdict in place of plain C.
 fn beside_the_verdict(what: &str) {
-    println!(
-        "{what:<58}{:>10}{:>10}{:>10}{:>16}{:>16}",
-        "ours", "second", "verdict", "ours/second", "ours/verdict"
+    beside(
+        what,
+        ["ours", "second", "verdict", "ours/second", "ours/verdict"],
     );
+}
+
+/// The heading of lines, and of each column.
+fn beside(what: &str, [a, b, c, d, e]: [&str; 5]) {
+    println!("{what:<58}{a:>10}{b:>10}{c:>10}{d:>16}{e:>16}");
 }
 
 fn reading(size: &Size) {
@@ -106,6 +131,13 @@ fn varied_tables(size: &Size) -> Vec<Table> {
     let r = &mut Random::new(4);
     let tables = size.tables.iter().map(|table| varied(r, table));
     tables.collect()
+}
+
+/// Tables with D four times T, and states of them with four live jobs of each task.
+fn deep_runs(size: &Size) -> (Vec<Table>, Vec<State>) {
+    let r = &mut Random::new(5);
+    let runs = size.tables.iter().map(|table| deep(r, table));
+    runs.unzip()
 }
 
 fn judging(size: &Size) {
@@ -174,7 +206,7 @@ fn sharply(size: &Size) {
 /// The second program makes its text on the heap.
 fn reporting(size: &Size) {
     let files: Vec<Vec<u8>> = good_tables(size).iter().map(file).collect();
-    let (mut a, mut c) = ([0u8; face::REPORT_MOST], [0u8; face::REPORT_MOST]);
+    let (mut a, mut c) = ([0u8; face::MAX_REPORT], [0u8; face::MAX_REPORT]);
     let ours = |k: usize| {
         black_box(face::report(black_box(&files[k]), black_box(&mut a)));
     };
@@ -204,22 +236,40 @@ fn opening(size: &Size) {
     measure(&format!("open    {}", size.name), sides);
 }
 
-/// The same runs on all sides. The second program keeps the machine's own state, so that it has nothing to set out as numbers;
-/// plain C moves the state on where it stands, ours takes it and gives it back.
-fn ticking(size: &Size, load: Load) {
-    let tables = good_tables(size);
+/// The states of all inputs before the first tick.
+fn opened() -> Vec<State> {
+    vec![State::zeros(0, Phase::Running); INPUTS]
+}
+
+/// The same runs on all sides, each moving its state on where it stands. The second program keeps the machine's own state, so that it
+/// has nothing to set out as numbers.
+fn ticking(name: &str, load: Load, tables: &[Table], states: &[State]) {
     let files: Vec<Vec<u8>> = tables.iter().map(file).collect();
-    let mut ours = Runs::new(&files, &tables, load, |file| face::open(file, 0).state);
-    let mut second = Runs::new(&files, &tables, load, |file| second::open(file, 0).state);
-    let mut plain = Runs::new(&files, &tables, load, |file| face::open(file, 0).state);
+    let mut ours = Runs::new(&files, tables, load, flat(states));
+    let mut second = Runs::new(&files, tables, load, states.to_vec());
+    let mut plain = Runs::new(&files, tables, load, flat(states));
     let sides: [Work; 3] = [
-        Box::new(|k| ours.tick(black_box(k))),
+        Box::new(|k| ours.tick_in_place(black_box(k))),
         Box::new(|k| second.tick(black_box(k))),
         Box::new(|k| plain.tick_plain(black_box(k))),
     ];
-    measure(&format!("tick    {}, {}", size.name, load.name()), sides);
+    measure(&format!("tick    {name}"), sides);
     assert!(second.agree(&ours), "the runs differ");
     assert!(second.agree(&plain), "the runs in plain C differ");
+}
+
+/// Ticks that take the state and give it back, beside those in place: what the copies of it cost.
+fn by_value(size: &Size) {
+    let tables = good_tables(size);
+    let files: Vec<Vec<u8>> = tables.iter().map(file).collect();
+    let runs = || Runs::new(&files, &tables, Load::All, flat(&opened()));
+    let (mut value, mut place, mut plain) = (runs(), runs(), runs());
+    let sides: [Work; 3] = [
+        Box::new(|k| value.tick_by_value(black_box(k))),
+        Box::new(|k| place.tick_in_place(black_box(k))),
+        Box::new(|k| plain.tick_plain(black_box(k))),
+    ];
+    measure(&format!("{}, all tasks", size.name), sides);
 }
 
 /// Rows of a journal that is measured.

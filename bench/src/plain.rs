@@ -1,7 +1,6 @@
-//! The plain C version (plain.h) from Rust. Its table and its state are laid out as the C face's.
+//! The plain C version (plain.h) from Rust. Its table, its state and the answers to a verdict and a tick are laid out as the C face's.
 
 use compare::face;
-use second::machine::Answer;
 
 #[repr(C)]
 #[derive(Clone, Copy, PartialEq, Eq, Debug)]
@@ -9,16 +8,6 @@ pub struct Found {
     pub number: u8,
     pub task: u8,
     pub place: usize,
-}
-
-#[repr(C)]
-#[derive(Clone, Copy, PartialEq, Eq, Debug)]
-pub struct Ticked {
-    pub number: u8,
-    pub task: u8,
-    pub place: usize,
-    pub ran: [[u8; 2]; 8],
-    pub finished: u16,
 }
 
 /// The functions themselves, for measurements.
@@ -48,7 +37,7 @@ pub mod entry {
             count: usize,
             state: *mut face::State,
             releases: u16,
-        ) -> Ticked;
+        ) -> face::TickAnswer;
     }
 }
 
@@ -84,23 +73,11 @@ pub fn open(bytes: &[u8], clock: u32, state: &mut face::State) -> Found {
     unsafe { entry::plain_open(bytes.as_ptr(), bytes.len(), clock, state) }
 }
 
-pub fn tick(bytes: &[u8], state: &mut face::State, releases: u16) -> Ticked {
+pub fn tick(bytes: &[u8], state: &mut face::State, releases: u16) -> face::TickAnswer {
     unsafe { entry::plain_tick(bytes.as_ptr(), bytes.len(), state, releases) }
 }
 
 /// A table to read into.
 pub fn no_table() -> face::Table {
     face::Table::from(&second::Table::ZERO)
-}
-
-impl From<&Answer> for Ticked {
-    fn from(answer: &Answer) -> Ticked {
-        Ticked {
-            number: answer.number,
-            task: answer.task,
-            place: answer.place,
-            ran: answer.ran.map(|(task, vertex)| [task, vertex]),
-            finished: answer.finished,
-        }
-    }
 }

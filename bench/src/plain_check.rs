@@ -1,6 +1,7 @@
 //! Holds the plain C version against the second program, so that what is measured is the same work.
 
 use crate::plain;
+use compare::ticking::{self, Input};
 use compare::{face, judging, reading, sharply, writing};
 use second::flat::FlatState;
 use second::random::*;
@@ -23,11 +24,8 @@ pub fn check(tables: &[Table]) {
         whole(&sharply::input(r));
         write(&writing::input(r));
         run(r);
+        tick(&ticking::input(r));
     }
-}
-
-fn flat(state: &second::State) -> face::State {
-    face::State::from(&FlatState::from(state))
 }
 
 fn same<T: PartialEq + std::fmt::Debug>(what: &str, plain: T, second: T) {
@@ -50,17 +48,17 @@ fn whole(bytes: &[u8]) {
     same("verdict", plain::verdict(bytes), verdict);
     let sharp = theirs(second::sharp(bytes));
     same("sharp verdict", plain::sharp(bytes), sharp);
-    let mut buffer = [0u8; face::REPORT_MOST];
+    let mut buffer = [0u8; face::MAX_REPORT];
     let length = plain::report(bytes, &mut buffer);
     same("report", &buffer[..length], &second::report(bytes)[..]);
     let length = plain::sharp_report(bytes, &mut buffer);
     let text = second::sharp_report(bytes);
     same("sharp report", &buffer[..length], &text[..]);
-    let opened = second::open(bytes, 7);
-    let mut state = flat(&opened.state);
+    let opened = second::flat::open(bytes, 7);
+    let mut state = opened.state;
     state.clock = 1;
     plain::open(bytes, 7, &mut state);
-    same("opening", state, flat(&opened.state));
+    same("opening", state, opened.state);
 }
 
 fn write(table: &Table) {
@@ -71,34 +69,28 @@ fn write(table: &Table) {
     same("file", mine, theirs);
 }
 
-/// A run of ticks, each on the state before: allowed releases, now and then any, or a damaged state.
+/// A run of ticks, each on the state before: allowed releases and some that are not.
 fn run(r: &mut Random) {
-    let roomy = r.coin();
-    let table = if r.coin() {
-        tiny_table(r, roomy)
-    } else {
-        near_edge(r, 3, 5, 30)
+    let table = ticking::lively(r);
+    let mut input = Input {
+        bytes: file(&table),
+        state: FlatState::from(&fitting(r, &table)),
+        releases: 0,
     };
-    let bytes = file(&table);
-    let mut state = reached(r, &table, 20);
     for _ in 0..12 {
-        let set = if r.one_in(6) {
-            r.word() as u16
-        } else {
-            releases(r, &table, &state)
-        };
-        let before = if r.one_in(6) {
-            damaged_state(r, &state, 1)
-        } else {
-            state
-        };
-        let mut after = flat(&before);
-        let answer = plain::tick(&bytes, &mut after, set);
-        let ticked = second::tick(&bytes, &before, set);
-        same("tick", answer, plain::Ticked::from(&ticked.answer));
-        same("state", after, flat(&ticked.state));
-        if ticked.answer.number == 0 {
-            state = ticked.state;
+        if let Some(state) = input.state.state() {
+            input.releases = ticking::any_releases(r, &table, &state);
         }
+        input.state = tick(&input);
     }
+}
+
+/// A tick, and the state after it.
+fn tick(input: &Input) -> face::State {
+    let mut state = input.state;
+    let answer = plain::tick(&input.bytes, &mut state, input.releases);
+    let theirs = second::flat::tick(&input.bytes, &input.state, input.releases);
+    same("tick", answer, face::TickAnswer::from(&theirs.answer));
+    same("state", state, theirs.state);
+    state
 }

@@ -43,28 +43,37 @@ fn ready(tasks: usize, wait: impl Fn(usize) -> u32) -> u16 {
 }
 
 impl<'a, S> Runs<'a, S> {
-    pub fn new(
-        files: &'a [Vec<u8>],
-        tables: &[Table],
-        load: Load,
-        open: impl Fn(&[u8]) -> S,
-    ) -> Runs<'a, S> {
+    /// Runs of these tables and their files from these states on.
+    pub fn new(files: &'a [Vec<u8>], tables: &[Table], load: Load, states: Vec<S>) -> Runs<'a, S> {
         Runs {
             files,
             tasks: tables.iter().map(|table| load.tasks(table)).collect(),
-            states: files.iter().map(|file| open(file)).collect(),
+            states,
         }
     }
 }
 
+/// States as the C face has them.
+pub fn flat(states: &[State]) -> Vec<face::State> {
+    states.iter().map(FlatState::from).collect()
+}
+
 impl Runs<'_, face::State> {
-    pub fn tick(&mut self, k: usize) {
+    /// A tick that takes the state and gives the next one back.
+    pub fn tick_by_value(&mut self, k: usize) {
         let state = &mut self.states[k];
         let releases = ready(self.tasks[k], |i| state.tasks[i].wait);
         *state = face::tick(&self.files[k], *state, releases).state;
     }
 
-    /// The same by plain C, where the state stands.
+    /// The same where the state stands.
+    pub fn tick_in_place(&mut self, k: usize) {
+        let state = &mut self.states[k];
+        let releases = ready(self.tasks[k], |i| state.tasks[i].wait);
+        black_box(face::tick_in_place(state, &self.files[k], releases));
+    }
+
+    /// The same by plain C.
     pub fn tick_plain(&mut self, k: usize) {
         let state = &mut self.states[k];
         let releases = ready(self.tasks[k], |i| state.tasks[i].wait);
@@ -75,13 +84,13 @@ impl Runs<'_, face::State> {
 impl Runs<'_, State> {
     pub fn tick(&mut self, k: usize) {
         let state = &mut self.states[k];
-        let releases = ready(self.tasks[k], |i| state.tasks[i].wait());
+        let releases = ready(self.tasks[k], |i| state.tasks[i].wait);
         *state = second::tick(&self.files[k], state, releases).state;
     }
 
-    /// Whether all runs have come to the same states.
+    /// Whether all runs have come to the same states, none of them stopped.
     pub fn agree(&self, ours: &Runs<face::State>) -> bool {
-        let same = |(a, b): (&State, &face::State)| face::State::from(&FlatState::from(a)) == *b;
+        let same = |(a, b): (&State, &face::State)| FlatState::from(a) == *b && b.stopped == 0;
         self.states.iter().zip(&ours.states).all(same)
     }
 }

@@ -1,10 +1,10 @@
-//! The verdict: number, task, place, margin and chain; and what both verdicts are compared with and on.
+//! The verdict: number, task, place, margin and chain, byte for byte; and what both verdicts are compared with and on.
 
 use crate::comparison::{hex, same, Comparison, Difference};
 use crate::face;
 use crate::reading;
 use second::random::*;
-use second::table::{ENTRIES, MOST_TICKS};
+use second::table::{least_period, ENTRIES, MOST_TICKS};
 
 pub const JUDGING: Comparison = Comparison {
     name: "verdict",
@@ -84,8 +84,8 @@ fn extreme(r: &mut Random) -> second::Table {
     for i in 0..usize::from(table.n) {
         let (one, other) = (r.pick(times), r.pick(times));
         let task = &mut table.tasks[i];
-        task.deadline = one.min(other);
-        task.period = one.max(other);
+        task.deadline = one;
+        task.period = other.max(least_period(one));
         for h in 0..usize::from(task.v) {
             table.costs[ENTRIES * i + h] = r.pick(costs);
         }

@@ -1,4 +1,4 @@
-//! Opening: number, task, place and every field of the state.
+//! Opening: every byte of the answer and of the state.
 
 use crate::comparison::{hex, same, Comparison, Difference};
 use crate::face;

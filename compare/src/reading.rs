@@ -1,4 +1,4 @@
-//! Reading: number, place and every entry of the table.
+//! Reading: number, place and every byte of the table.
 
 use crate::comparison::{hex, same, Comparison, Difference};
 use crate::face;
@@ -13,12 +13,7 @@ pub const READING: Comparison = Comparison {
 
 fn one(r: &mut Random) -> Result<u8, Difference> {
     let bytes = input(r);
-    let found = second::read(&bytes);
-    let theirs = face::ReadAnswer {
-        number: found.number,
-        place: found.place as u64,
-        table: face::Table::from(&found.table),
-    };
+    let theirs = face::ReadAnswer::from(&second::read(&bytes));
     same(theirs.number, &face::read(&bytes), &theirs, || hex(&bytes))
 }
 

@@ -66,7 +66,7 @@ fn buffer(r: &mut Random, text: usize) -> Vec<u8> {
         4 => text + r.below(8),
         5 => r.below(2 * text),
         6 => r.pick(&[0, 1, 2048, 4096]),
-        _ => face::REPORT_MOST,
+        _ => face::MAX_REPORT,
     };
     (0..length).map(|_| r.byte()).collect()
 }

@@ -37,7 +37,7 @@ fn one(r: &mut Random) -> Result<u8, Difference> {
             input.releases = any_releases(r, &table, &state);
         }
         let ticked = tick_both(&input)?;
-        last = ticked.number;
+        last = ticked.answer.number;
         input.state = ticked.state;
     }
     Ok(last)

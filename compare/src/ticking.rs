@@ -1,10 +1,11 @@
-//! One tick of any state: number, task, place, run list, finished set and every field of the next state.
+//! One tick of any state: every byte of the answer and of the next state; the same of a tick in place.
 
 use crate::comparison::{hex, same, Comparison, Difference};
 use crate::face;
 use second::flat::{FlatState, FlatTicked};
 use second::random::*;
-use second::table::ENTRIES;
+use second::table::{least_period, ENTRIES};
+use second::verdict::judge;
 use second::{State, Table};
 
 pub const TICKING: Comparison = Comparison {
@@ -23,19 +24,18 @@ pub struct Input {
 
 fn one(r: &mut Random) -> Result<u8, Difference> {
     let input = input(r);
-    tick_both(&input).map(|answer| answer.number)
+    tick_both(&input).map(|ticked| ticked.answer.number)
 }
 
-/// The answer that both sides give.
+/// What both sides give, ours also on a state that is moved on where it stands.
 pub fn tick_both(input: &Input) -> Result<FlatTicked, Difference> {
     let found = second::flat::tick(&input.bytes, &input.state, input.releases);
-    let theirs = face::TickAnswer::from(&found);
-    let ours = face::tick(
-        &input.bytes,
-        face::State::from(&input.state),
-        input.releases,
-    );
-    same(theirs.number, &ours, &theirs, || {
+    let theirs = face::Ticked::from(&found);
+    let given = face::tick(&input.bytes, input.state, input.releases);
+    let mut state = input.state;
+    let answer = face::tick_in_place(&mut state, &input.bytes, input.releases);
+    let ours = [given, face::Ticked { answer, state }];
+    same(theirs.answer.number, &ours, &[theirs; 2], || {
         format!(
             "{}\nstate {:?}\nreleases {:016b}",
             hex(&input.bytes),
@@ -47,12 +47,12 @@ pub fn tick_both(input: &Input) -> Result<FlatTicked, Difference> {
 }
 
 /// A table with a state that fits it or nearly, one that is no state, or any numbers; now and then another table than that of the
-/// state, or damage to its file.
+/// state, damage to its file, or no bytes at all.
 pub fn input(r: &mut Random) -> Input {
     let table = lively(r);
     let state = state(r, &table);
     let releases = any_releases(r, &table, &state);
-    let flat = flat(r, &state);
+    let flat = flat(r, &table, &state);
     let mut bytes = file(&table);
     match r.below(24) {
         0 => bytes = file(&lively(r)),
@@ -61,6 +61,7 @@ pub fn input(r: &mut Random) -> Input {
             bytes = raw(&damaged_table(r, &table, changes));
         }
         2 => damage(r, &mut bytes),
+        3 => bytes.clear(),
         _ => {}
     }
     Input {
@@ -75,25 +76,29 @@ pub fn lively(r: &mut Random) -> Table {
     match r.below(16) {
         0 => largest_table(r),
         1 => table(r),
-        2 => few_ticks(r, ENTRIES, ENTRIES),
-        3 | 4 => few_ticks(r, 4, 6),
-        5 => {
+        2 | 3 => few_ticks(r, ENTRIES, ENTRIES),
+        4..=6 => few_ticks(r, 4, 6),
+        7 => {
             let n = r.below(4) + 1;
             near_edge(r, n, 5, 30)
         }
-        6..=9 => tiny_table(r, true),
+        8..=10 => tiny_long(r, 6, |table| judge(table).number == 0),
+        11..=13 => tiny_table(r, true),
         _ => tiny_table(r, false),
     }
 }
 
-/// Any graphs, but few ticks to each cost, deadline and period.
+/// Any graphs, but few ticks to each cost, deadline and period; half of the deadlines are longer than the period.
 fn few_ticks(r: &mut Random, tasks: usize, vertices: usize) -> Table {
     let n = r.below(tasks) + 1;
     let mut table = table_sized(r, n, vertices);
     let most = r.range(2, 40);
     for task in &mut table.tasks[..n] {
         task.deadline = r.range(1, most);
-        task.period = r.range(task.deadline, 2 * most);
+        let least = least_period(task.deadline);
+        let short = r.range(least, task.deadline);
+        let loose = r.range(task.deadline, 2 * most);
+        task.period = r.pick(&[least, short, loose, loose]);
     }
     table.costs = table.costs.map(|cost| cost.min(1 + cost % 4));
     table
@@ -111,13 +116,13 @@ fn state(r: &mut Random, table: &Table) -> State {
     damaged_state(r, &base, changes)
 }
 
-fn flat(r: &mut Random, state: &State) -> FlatState {
+fn flat(r: &mut Random, table: &Table, state: &State) -> FlatState {
     let flat = FlatState::from(state);
     match r.below(16) {
         0 => wild_flat(r),
         1..=4 => {
             let changes = r.below(3) + 1;
-            damaged_flat(r, &flat, changes)
+            damaged_flat(r, table, &flat, changes)
         }
         _ => flat,
     }

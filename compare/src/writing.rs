@@ -15,8 +15,7 @@ pub const WRITING: Comparison = Comparison {
 /// What a side says: its answer, the buffer afterwards, and what the reader makes of a file that was written.
 #[derive(PartialEq, Eq, Debug)]
 struct Said {
-    number: u8,
-    place: u64,
+    answer: face::WriteAnswer,
     buffer: Vec<u8>,
     back: Option<face::Table>,
 }
@@ -24,9 +23,13 @@ struct Said {
 fn one(r: &mut Random) -> Result<u8, Difference> {
     let table = input(r);
     let before = buffer(r, &table);
-    let ours = ours(face::Table::from(&table), before.clone());
+    let mut given = face::Table::from(&table);
+    if r.coin() {
+        fill_pads(r, &mut given);
+    }
+    let ours = ours(given, before.clone());
     let theirs = theirs(&table, before.clone());
-    same(theirs.number, &ours, &theirs, || {
+    same(theirs.answer.number, &ours, &theirs, || {
         format!("{table:?}\nbuffer {}", hex(&before))
     })
 }
@@ -36,20 +39,26 @@ fn ours(table: face::Table, mut buffer: Vec<u8>) -> Said {
     let length = buffer.len().min(answer.place as usize);
     let back = (answer.number == 0).then(|| face::read(&buffer[..length]).table);
     Said {
-        number: answer.number,
-        place: answer.place,
+        answer,
         buffer,
         back,
     }
 }
 
 fn theirs(table: &second::Table, mut buffer: Vec<u8>) -> Said {
-    let (number, place) = second::write(table, &mut buffer);
+    let answer = face::WriteAnswer::of(second::write(table, &mut buffer));
     Said {
-        number,
-        place: place as u64,
+        answer,
         buffer,
-        back: (number == 0).then(|| face::Table::from(table)),
+        back: (answer.number == 0).then(|| face::Table::from(table)),
+    }
+}
+
+/// Any bytes in the padding of a table, at which nobody looks.
+fn fill_pads(r: &mut Random, table: &mut face::Table) {
+    let tasks = table.tasks.iter_mut().flat_map(|task| &mut task.pad);
+    for byte in tasks.chain(&mut table.pad) {
+        *byte = r.byte();
     }
 }
 
@@ -80,7 +89,7 @@ fn buffer(r: &mut Random, table: &second::Table) -> Vec<u8> {
         1 => file.saturating_sub(1),
         2 => r.below(file + 1),
         3 => file + r.below(8),
-        4 => LARGEST,
+        4 => r.pick(&[0, LARGEST]),
         _ => r.below(LARGEST + 100),
     };
     (0..length).map(|_| r.byte()).collect()

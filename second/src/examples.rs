@@ -86,15 +86,34 @@ pub fn table_marks() -> Table {
     table
 }
 
-/// m 2, one vertex, D = T = 7, and a cost.
-fn table_p3(cost: u32) -> Vec<u8> {
+/// Deadlines longer than the period (document 02, M-109): four live jobs of task
+/// 0 at once and two of task 1, all of which can run.
+pub fn table_long() -> Table {
     let mut table = Table {
-        m: 2,
+        m: 8,
+        n: 2,
+        ..Table::ZERO
+    };
+    plain_task(&mut table, 0, 16, 4, &[13]);
+    plain_task(&mut table, 1, 6, 2, &[2, 1, 1]);
+    table.tasks[1].succ[0] = 0b110;
+    table
+}
+
+/// A table of one task of one vertex.
+pub fn table_of_one(m: u8, deadline: u32, period: u32, cost: u32) -> Table {
+    let mut table = Table {
+        m,
         n: 1,
         ..Table::ZERO
     };
-    plain_task(&mut table, 0, 7, 7, &[cost]);
-    file(&table)
+    plain_task(&mut table, 0, deadline, period, &[cost]);
+    table
+}
+
+/// m 2, one vertex, D = T = 7, and a cost.
+fn table_p3(cost: u32) -> Vec<u8> {
+    file(&table_of_one(2, 7, 7, cost))
 }
 
 /// P5's table.
@@ -112,9 +131,10 @@ pub fn table_p5() -> Vec<u8> {
 }
 
 /// The lowest margin, by the old verdict and by the sharp one: P5 with task 0
-/// one chain.
+/// one chain and a T as short as its D allows.
 pub fn table_lowest() -> Table {
     let mut table = read(&table_p5()).table;
+    table.tasks[0].period = least_period(MOST_TICKS);
     table.tasks[0].succ = std::array::from_fn(|h| (2u32 << h) as u16);
     table
 }
@@ -149,7 +169,7 @@ fn play_a(program: &Program, clock: u32, releases: &[u16]) -> (Vec<String>, Stat
         let ticked = (program.tick)(&TABLE_A, &state, *set);
         let answer = ticked.answer;
         let ran = answer.ran.iter().filter(|vertex| **vertex != NO_VERTEX);
-        let ran: Vec<_> = ran.map(|(i, h)| format!("{i}.{h}")).collect();
+        let ran: Vec<_> = ran.map(|(i, age, h)| format!("{i}.{age}.{h}")).collect();
         said.push(format!(
             "{} {} [{}]",
             answer.number,
@@ -163,9 +183,9 @@ fn play_a(program: &Program, clock: u32, releases: &[u16]) -> (Vec<String>, Stat
 
 fn say_p12(program: &Program) -> String {
     let (said, state) = play_a(program, 4_294_967_286, &[3]);
-    let deadline = |i: usize| match state.tasks[i] {
-        Job::Live { deadline, .. } => deadline.to_string(),
-        Job::Idle { .. } => String::from("none"),
+    let deadline = |i: usize| match state.tasks[i].deadlines[0] {
+        Some(deadline) => deadline.to_string(),
+        None => String::from("none"),
     };
     format!("deadlines {} {}; {}", deadline(0), deadline(1), said[0])
 }
@@ -213,14 +233,18 @@ pub fn examples(program: &Program) -> Vec<Line> {
         line(
             "P9",
             said(&[3, 0, 0, 0], 0),
-            "0 255 [1.0 1.1]; 0 255 [1.0 1.1]; 0 255 [0.0]; 0 255 [0.0]",
+            "0 255 [1.0.0 1.0.1]; 0 255 [1.0.0 1.0.1]; 0 255 [0.0.0]; 0 255 [0.0.0]",
         ),
         line("P10", said(&[3, 0, 0, 0, 0, 2], 5), "33 1 []"),
-        line("P11", said(&[3, 0, 0, 0, 0, 0, 2], 6), "0 255 [0.1 1.0]"),
+        line(
+            "P11",
+            said(&[3, 0, 0, 0, 0, 0, 2], 6),
+            "0 255 [0.0.1 1.0.0]",
+        ),
         line(
             "P12",
             say_p12(program),
-            "deadlines 0 4294967292; 0 255 [1.0 1.1]",
+            "deadlines 0 4294967292; 0 255 [1.0.0 1.0.1]",
         ),
     ]
 }

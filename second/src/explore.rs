@@ -8,11 +8,11 @@ mod set;
 mod times;
 mod tiny;
 
-pub use packing::Packing;
+pub use packing::{most_live, Key, Packing};
 pub use rules::{accepts, due_rounded_down, Rule};
 pub use set::KeySet;
-pub use times::{each_draw, off_cost, Times};
-pub use tiny::small_tables;
+pub use times::{each_draw, new_jobs, off_cost, Times};
+pub use tiny::{long_tables, small_tables};
 
 use crate::graph::longest_chain;
 use crate::legal::each_choice_by;
@@ -29,6 +29,8 @@ pub enum Wrong {
     Chain(u8),
     /// The next state doesn't fit.
     Misfit,
+    /// A release left this task with no more live jobs than before.
+    Lost(u8),
     /// A vertex ran while something remained of one from which a path leads
     /// to it.
     Early(u8),
@@ -50,32 +52,41 @@ pub struct Found {
     pub states: u64,
     pub ticks: u64,
     pub chains_too_long: u64,
+    /// Live jobs of a task at once, with a tick's releases made.
+    pub most_live: usize,
     pub wrong: Option<(Wrong, Vec<Step>)>,
 }
 
-/// The lowest live job whose longest unfinished chain exceeds its ticks left,
-/// in a state with the tick's releases made.
+/// The lowest task with a live job whose longest unfinished chain exceeds its
+/// ticks left, in a state with the tick's releases made.
 pub fn chain_too_long(table: &Table, released: &State) -> Option<u8> {
     (0..table.n).find(|task| {
         let i = usize::from(*task);
-        let Job::Live { deadline, .. } = released.tasks[i] else {
-            return false;
-        };
-        let v = usize::from(table.tasks[i].v);
-        let chain = longest_chain(&table.tasks[i].succ, sixteen(&released.remaining, i), v);
-        chain > u64::from(deadline.wrapping_sub(released.clock))
+        let (succ, v) = (&table.tasks[i].succ, usize::from(table.tasks[i].v));
+        released.tasks[i].jobs().any(|(age, deadline)| {
+            let chain = longest_chain(succ, released.rest(i, age), v);
+            chain > u64::from(released.left(deadline))
+        })
     })
+}
+
+/// The lowest task with no more live jobs after its release than before.
+fn lost(state: &State, released: &State, releases: u16) -> Option<u8> {
+    let live = |state: &State, i: usize| state.tasks[i].jobs().count();
+    let named = (0..ENTRIES).filter(|i| releases >> i & 1 == 1);
+    let lost = named.filter(|i| live(released, *i) != live(state, *i) + 1);
+    lost.map(|i| i as u8).min()
 }
 
 /// The lowest task of which a vertex is to run too early: told by paths, not
 /// by what is done.
 pub fn runs_early(table: &Table, released: &State, ran: &[Vertex]) -> Option<u8> {
-    let early = ran.iter().filter(|(task, vertex)| {
+    let early = ran.iter().filter(|(task, age, vertex)| {
         let i = usize::from(*task);
-        let rest = sixteen(&released.remaining, i);
+        let rest = released.rest(i, usize::from(*age));
         (0..ENTRIES).any(|h| rest[h] > 0 && leads(&table.tasks[i], h, usize::from(*vertex)))
     });
-    early.map(|(task, _)| *task).min()
+    early.map(|(task, ..)| *task).min()
 }
 
 /// Whether a path of one edge or more leads from a vertex to another.
@@ -84,31 +95,37 @@ fn leads(task: &Task, from: usize, to: usize) -> bool {
     next.into_iter().any(|h| h == to || leads(task, h, to))
 }
 
-/// How a run goes: which vertices wait, and what they take.
+/// How a run goes: which vertices wait and what they take; how a task's jobs
+/// are kept; and what each state is asked.
 #[derive(Clone, Copy)]
 pub struct How {
     pub held: Held,
     pub times: Times,
+    pub keeping: Keeping,
+    pub fits: fn(&Table, &State) -> bool,
 }
 
 /// The machine as the documents have it, with stated costs.
 pub const STATED: How = How {
     held: held_back,
     times: Times::Stated,
+    keeping: OLDEST_FIRST,
+    fits,
 };
 
-/// The same where steps may end early.
+/// The same where steps may end early: a vertex that waits has its own time
+/// left, not its whole cost.
 pub const EARLY: How = How {
-    held: held_back,
     times: Times::Early,
+    fits: fits_but_for_work,
+    ..STATED
 };
 
 /// Explores a tiny table wholly, or up to the first miss or misfit; then a
 /// chain too long without a miss is what is wrong, if there is one. A chain
-/// counts what truly remains. Where steps end early a state need not fit: a
-/// vertex that waits has its own time left, not its whole cost.
+/// counts what truly remains.
 pub fn explore(table: &Table, how: How, seen: &mut KeySet) -> Found {
-    let packing = Packing::of(table, how.times).expect("a tiny table's states go into 64 bits");
+    let packing = Packing::of(table, how.times).expect("a tiny table's states go into 128 bits");
     seen.clear();
     seen.insert(packing.pack(&State::zeros(CLOCK, Phase::Running)));
     let mut search = Search {
@@ -151,7 +168,14 @@ impl Search<'_> {
         let (table, times) = (self.table, self.how.times);
         let state = self.packing.unpack(self.seen.key(at));
         for releases in release_sets(table, &state) {
-            let mut released = release(table, &state, releases);
+            let mut released = release_by(table, &state, releases, self.how.keeping);
+            if let Some(task) = lost(&state, &released, releases) {
+                let last = self.step_of(&released, releases, &[]);
+                self.found.wrong = Some((Wrong::Lost(task), self.run_to(at, last)));
+                return;
+            }
+            let live = released.tasks.iter().map(|task| task.jobs().count());
+            self.found.most_live = live.fold(self.found.most_live, usize::max);
             let whole = each_draw(table, &mut released, releases, times, |drawn| {
                 self.look_at_chains(drawn, at, releases);
                 self.choose(drawn, at, releases)
@@ -175,7 +199,7 @@ impl Search<'_> {
     fn choose(&mut self, drawn: &State, at: usize, releases: u16) -> bool {
         let table = self.table;
         each_choice_by(table, drawn, self.how.held, |ran| {
-            let moved = go_on(table, drawn, releases, ran);
+            let moved = go_on_by(table, drawn, releases, ran, self.how.keeping);
             self.found.ticks += 1;
             let early = runs_early(table, drawn, ran).map(Wrong::Early);
             let wrong = early.or_else(|| self.check(&moved, at));
@@ -194,7 +218,7 @@ impl Search<'_> {
         }
         if self.seen.insert(self.packing.pack(&moved.state)) {
             self.parents.push(from as u32);
-            if self.how.times == Times::Stated && !fits(self.table, &moved.state) {
+            if !(self.how.fits)(self.table, &moved.state) {
                 return Some(Wrong::Misfit);
             }
         }
@@ -223,26 +247,21 @@ impl Search<'_> {
     }
 
     /// A step that leads from one state to another.
-    fn step(&self, from: u64, to: u64) -> Step {
+    fn step(&self, from: Key, to: Key) -> Step {
+        let (table, how) = (self.table, self.how);
         let state = self.packing.unpack(from);
         let mut step = None;
-        for releases in release_sets(self.table, &state) {
-            let mut released = release(self.table, &state, releases);
-            each_draw(
-                self.table,
-                &mut released,
-                releases,
-                self.how.times,
-                |drawn| {
-                    each_choice_by(self.table, drawn, self.how.held, |ran| {
-                        let moved = go_on(self.table, drawn, releases, ran);
-                        if moved.missed.is_none() && self.packing.pack(&moved.state) == to {
-                            step = Some(self.step_of(drawn, releases, ran));
-                        }
-                        step.is_none()
-                    })
-                },
-            );
+        for releases in release_sets(table, &state) {
+            let mut released = release_by(table, &state, releases, how.keeping);
+            each_draw(table, &mut released, releases, how.times, |drawn| {
+                each_choice_by(table, drawn, how.held, |ran| {
+                    let moved = go_on_by(table, drawn, releases, ran, how.keeping);
+                    if moved.missed.is_none() && self.packing.pack(&moved.state) == to {
+                        step = Some(self.step_of(drawn, releases, ran));
+                    }
+                    step.is_none()
+                })
+            });
         }
         step.expect("a state was found by a step from its parent")
     }
@@ -250,7 +269,7 @@ impl Search<'_> {
 
 /// Every set of tasks whose wait is 0.
 pub fn release_sets(table: &Table, state: &State) -> impl Iterator<Item = u16> {
-    let ready = (0..usize::from(table.n)).filter(|i| state.tasks[*i].wait() == 0);
+    let ready = (0..usize::from(table.n)).filter(|i| state.tasks[*i].wait == 0);
     let ready = ready.fold(0u16, |set, i| set | 1 << i);
     (0..=ready).filter(move |set| set & !ready == 0)
 }

@@ -1,12 +1,14 @@
 //! The judge of panel journals, from document 02, M-100.
 
-use crate::machine::{go_on, left_of, rank, release, vertex_of, Job, Phase, Ranked, State, Vertex};
+use crate::machine::*;
 use crate::reader::read;
 use crate::table::Table;
 
 pub const ROW_MARK: [u8; 2] = [0x4A, 0x52];
 /// Mark, release set and run count.
 pub const ROW_HEAD: usize = 5;
+/// Task, age place and vertex.
+pub const ROW_VERTEX: usize = 3;
 
 /// Number 0 with the number of rows and whether the last one missed; or the
 /// refusal's number and row, for reading's numbers the place and row 0.
@@ -90,60 +92,40 @@ fn judge_row(table: &Table, state: &State, rest: &[u8]) -> Result<(State, usize)
     let hold = |holds: bool, number: u8| if holds { Ok(()) } else { Err(number) };
     hold(state.phase == Phase::Running, 47)?;
     let count = rest.get(ROW_HEAD - 1).map(|byte| usize::from(*byte));
-    let length = count.map(|count| ROW_HEAD + 2 * count);
+    let length = count.map(|count| ROW_HEAD + ROW_VERTEX * count);
     let whole = length.filter(|length| *length <= rest.len());
     let length = whole.ok_or(40)?;
-    let (head, pairs) = rest[..length].split_at(ROW_HEAD);
-    let pair = |k: usize| (pairs[2 * k], pairs[2 * k + 1]);
-    let count = pairs.len() / 2;
+    let (head, triples) = rest[..length].split_at(ROW_HEAD);
     hold(head[..2] == ROW_MARK, 41)?;
-    let ascend = (1..count).all(|k| pair(k - 1) < pair(k));
-    hold(count <= usize::from(table.m) && ascend, 42)?;
+    let listed = triples.chunks_exact(ROW_VERTEX);
+    let listed: Vec<Vertex> = listed.map(|bytes| (bytes[0], bytes[1], bytes[2])).collect();
+    let ascend = listed.windows(2).all(|two| two[0] < two[1]);
+    hold(listed.len() <= usize::from(table.m) && ascend, 42)?;
     let releases = u16::from_le_bytes([head[2], head[3]]);
     let named = (0..16).filter(|i| releases >> i & 1 == 1);
     hold(named.clone().all(|i| i < usize::from(table.n)), 31)?;
-    let waits = |i: usize| state.tasks[i].wait() > 0;
-    hold(!named.clone().any(waits), 33)?;
-    let mut listed = [(255, 255); 8];
-    let listed = &mut listed[..count];
-    for (k, vertex) in listed.iter_mut().enumerate() {
-        *vertex = pair(k);
-    }
+    hold(!named.clone().any(|i| state.tasks[i].wait > 0), 33)?;
     let before = release(table, state, releases);
-    choose(table, &before, listed)?;
-    Ok((go_on(table, &before, releases, listed).state, length))
+    choose(table, &before, &listed)?;
+    Ok((go_on(table, &before, releases, &listed).state, length))
 }
 
 /// 44 to 46, of the state with the releases made.
 fn choose(table: &Table, released: &State, listed: &[Vertex]) -> Result<(), u8> {
     let available = rank(table, released);
     let is_listed = |entry: &&u64| listed.contains(&vertex_of(**entry));
-    let hits = available.all().iter().filter(is_listed).count();
-    if hits < listed.len() {
+    let hits = || available.all().iter().filter(is_listed);
+    if hits().count() < listed.len() {
         return Err(44);
     }
     if listed.len() < usize::from(table.m).min(available.all().len()) {
         return Err(45);
     }
-    if passes_over(&available, listed, released) {
-        return Err(46);
-    }
-    Ok(())
-}
-
-/// Whether an available vertex that is not listed has fewer ticks left than a
-/// listed one.
-fn passes_over(available: &Ranked, listed: &[Vertex], released: &State) -> bool {
-    let left = |task: u8| match released.tasks[usize::from(task)] {
-        Job::Live { deadline, .. } => deadline.wrapping_sub(released.clock),
-        Job::Idle { .. } => 0,
-    };
-    let latest = listed.iter().map(|(task, _)| left(*task)).max();
-    let mut passed = available.all().iter();
-    let first = passed.find(|entry| !listed.contains(&vertex_of(**entry)));
-    match (first, latest) {
-        (Some(first), Some(latest)) => left_of(*first) < latest,
-        _ => false,
+    // The first one not listed has the fewest ticks left of all such.
+    let passed = available.all().iter().find(|entry| !is_listed(entry));
+    match (passed, hits().last()) {
+        (Some(passed), Some(latest)) if left_of(*passed) < left_of(*latest) => Err(46),
+        _ => Ok(()),
     }
 }
 
@@ -154,5 +136,8 @@ pub fn put_row(out: &mut Vec<u8>, releases: u16, ran: &[Vertex]) {
     out.extend(ROW_MARK);
     out.extend(releases.to_le_bytes());
     out.push(ran.len() as u8);
-    out.extend(ran.iter().flat_map(|(task, vertex)| [*task, *vertex]));
+    out.extend(
+        ran.iter()
+            .flat_map(|(task, age, vertex)| [*task, *age, *vertex]),
+    );
 }

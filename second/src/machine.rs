@@ -1,65 +1,18 @@
 //! The tick machine: states, opening, what fits, and the tick.
 
+mod available;
 mod fits;
+mod places;
+mod state;
 
-pub use fits::fits;
+pub use available::*;
+pub use fits::*;
+pub use places::*;
+pub use state::*;
 
 use crate::reader::read;
 use crate::table::*;
 use crate::verdict::NO_TASK;
-
-#[derive(Clone, Copy, PartialEq, Eq, Debug)]
-pub enum Phase {
-    Running,
-    /// Stopped at this task.
-    Stopped(u8),
-}
-
-#[derive(Clone, Copy, PartialEq, Eq, Debug)]
-pub enum Job {
-    Idle { wait: u32 },
-    Live { deadline: u32, wait: u32 },
-}
-
-impl Job {
-    pub const ZERO: Job = Job::Idle { wait: 0 };
-
-    pub fn wait(self) -> u32 {
-        match self {
-            Job::Idle { wait } | Job::Live { wait, .. } => wait,
-        }
-    }
-}
-
-/// A state. Any number may stand in any field; `fits` says what is sound.
-#[derive(Clone, Copy, PartialEq, Eq, Debug)]
-pub struct State {
-    pub clock: u32,
-    pub phase: Phase,
-    pub tasks: [Job; ENTRIES],
-    /// What remains of vertex h of task i stands at 16 i + h.
-    pub remaining: [u32; ROW],
-    /// The work left of each task's job: the sum of its remainings.
-    pub work: [u64; ENTRIES],
-}
-
-impl State {
-    /// Zeros all round but for clock and phase.
-    pub const fn zeros(clock: u32, phase: Phase) -> State {
-        State {
-            clock,
-            phase,
-            tasks: [Job::ZERO; ENTRIES],
-            remaining: [0; ROW],
-            work: [0; ENTRIES],
-        }
-    }
-}
-
-/// All the work that a row of sixteen numbers stands for.
-pub fn summed(row: &[u32; ENTRIES]) -> u64 {
-    row.iter().map(|ticks| u64::from(*ticks)).sum()
-}
 
 #[derive(Clone, Copy, PartialEq, Eq, Debug)]
 pub struct Opened {
@@ -68,12 +21,6 @@ pub struct Opened {
     pub task: u8,
     pub state: State,
 }
-
-/// Task and vertex.
-pub type Vertex = (u8, u8);
-/// Where no vertex ran.
-pub const NO_VERTEX: Vertex = (255, 255);
-pub type RunList = [Vertex; 8];
 
 /// What a tick says besides the next state.
 #[derive(Clone, Copy, PartialEq, Eq, Debug)]
@@ -134,7 +81,7 @@ pub fn tick_table(table: &Table, state: &State, releases: u16) -> Ticked {
     if let Some(task) = lowest(releases, |i| i >= usize::from(table.n)) {
         return refused(state, 31, 0, task);
     }
-    if let Some(task) = lowest(releases, |i| state.tasks[i].wait() > 0) {
+    if let Some(task) = lowest(releases, |i| state.tasks[i].wait > 0) {
         return refused(state, 33, 0, task);
     }
     let before = release(table, state, releases);
@@ -177,116 +124,21 @@ fn lowest(releases: u16, bad: impl Fn(usize) -> bool) -> Option<u8> {
         .map(|i| i as u8)
 }
 
-/// Step 1: each named task becomes live, its costs remaining. The waits stay
-/// for step 4.
+/// Step 1: each named task has one more live job, its costs remaining. The
+/// waits stay for step 4.
 pub fn release(table: &Table, state: &State, releases: u16) -> State {
+    release_by(table, state, releases, OLDEST_FIRST)
+}
+
+/// The same by any way of keeping jobs.
+pub fn release_by(table: &Table, state: &State, releases: u16, keeping: Keeping) -> State {
     let mut next = *state;
     for i in (0..usize::from(table.n)).filter(|i| releases >> i & 1 == 1) {
         let deadline = state.clock.wrapping_add(table.tasks[i].deadline);
-        let wait = state.tasks[i].wait();
-        next.tasks[i] = Job::Live { deadline, wait };
-        let row = ENTRIES * i..ENTRIES * (i + 1);
-        next.remaining[row.clone()].copy_from_slice(&table.costs[row]);
-        next.work[i] = summed(table.costs_of(i));
+        let age = (keeping.make_room)(&mut next, i);
+        next.put_job(i, age, deadline, table.costs_of(i));
     }
     next
-}
-
-/// Available vertices in rank order, each as one number: ticks left, task and
-/// vertex from the high end down.
-pub struct Ranked {
-    entries: [u64; ROW],
-    count: usize,
-}
-
-impl Ranked {
-    pub fn all(&self) -> &[u64] {
-        &self.entries[..self.count]
-    }
-
-    /// The first m, or all if fewer.
-    pub fn first(&self, m: usize) -> &[u64] {
-        &self.entries[..self.count.min(m)]
-    }
-}
-
-pub fn vertex_of(entry: u64) -> Vertex {
-    ((entry >> 8) as u8, entry as u8)
-}
-
-pub fn left_of(entry: u64) -> u32 {
-    (entry >> 16) as u32
-}
-
-/// Which vertices of a job wait for a direct predecessor.
-pub type Held = fn(&Task, &[u32; ENTRIES]) -> u16;
-
-/// Steps 2 and 3: what is available, fully sorted.
-pub fn rank(table: &Table, state: &State) -> Ranked {
-    rank_by(table, state, held_back)
-}
-
-/// The same by any rule of what waits.
-pub fn rank_by(table: &Table, state: &State, held_back: Held) -> Ranked {
-    let mut entries = [0; ROW];
-    let mut count = 0;
-    for i in 0..usize::from(table.n) {
-        let Job::Live { deadline, .. } = state.tasks[i] else {
-            continue;
-        };
-        let left = u64::from(deadline.wrapping_sub(state.clock));
-        let remaining = sixteen(&state.remaining, i);
-        let held = held_back(&table.tasks[i], remaining);
-        let used = &remaining[..usize::from(table.tasks[i].v)];
-        for (h, rest) in used.iter().enumerate() {
-            if *rest > 0 && held >> h & 1 == 0 {
-                entries[count] = left << 16 | (i as u64) << 8 | h as u64;
-                count += 1;
-            }
-        }
-    }
-    entries[..count].sort_unstable();
-    Ranked { entries, count }
-}
-
-/// The vertices that are not done. "A vertex is done when nothing of it
-/// remains and all its direct predecessors are done" (document 02, M-103); so
-/// those with something remaining, and on from them along the edges.
-pub fn not_done(task: &Task, remaining: &[u32; ENTRIES]) -> u16 {
-    let v = usize::from(task.v);
-    let some = (0..v).filter(|h| remaining[*h] > 0);
-    let mut open: u16 = some.fold(0, |open, h| open | 1 << h);
-    let mut todo = open;
-    while todo != 0 {
-        let next = task.succ[todo.trailing_zeros() as usize] & !open;
-        todo &= todo - 1;
-        todo |= next;
-        open |= next;
-    }
-    open
-}
-
-/// The direct successors of a set of vertices.
-fn successors(task: &Task, mut set: u16) -> u16 {
-    let mut to = 0;
-    while set != 0 {
-        to |= task.succ[set.trailing_zeros() as usize];
-        set &= set - 1;
-    }
-    to
-}
-
-/// The vertices that have a direct predecessor not done.
-pub fn held_back(task: &Task, remaining: &[u32; ENTRIES]) -> u16 {
-    successors(task, not_done(task, remaining))
-}
-
-/// The error that looks right: those with a direct predecessor of which
-/// something remains. A join of cost 0 then lets its successors go while a
-/// branch before it still runs.
-pub fn held_by_remaining(task: &Task, remaining: &[u32; ENTRIES]) -> u16 {
-    let some = (0..ENTRIES).filter(|h| remaining[*h] > 0);
-    successors(task, some.fold(0, |set, h| set | 1 << h))
 }
 
 /// What steps 4 to 6 give: the next state, the tasks finished, and the
@@ -299,34 +151,35 @@ pub struct Moved {
 
 /// Steps 4 to 6, after the releases and with the vertices that run.
 pub fn go_on(table: &Table, released: &State, releases: u16, ran: &[Vertex]) -> Moved {
+    go_on_by(table, released, releases, ran, OLDEST_FIRST)
+}
+
+/// The same by any way of keeping jobs.
+pub fn go_on_by(
+    table: &Table,
+    released: &State,
+    releases: u16,
+    ran: &[Vertex],
+    keeping: Keeping,
+) -> Moved {
     let mut next = *released;
     next.clock = released.clock.wrapping_add(1);
-    for (task, vertex) in ran {
-        next.remaining[ENTRIES * usize::from(*task) + usize::from(*vertex)] -= 1;
-        next.work[usize::from(*task)] -= 1;
+    for vertex in ran {
+        next.remaining[rest_at(*vertex)] -= 1;
+        next.work[rest_at(*vertex) / ENTRIES] -= 1;
     }
     let mut finished = 0;
     let mut missed = None;
     for i in 0..usize::from(table.n) {
-        let wait = if releases >> i & 1 == 1 {
+        next.tasks[i].wait = if releases >> i & 1 == 1 {
             table.tasks[i].period - 1
         } else {
-            released.tasks[i].wait().saturating_sub(1)
+            released.tasks[i].wait.saturating_sub(1)
         };
-        let done = next.work[i] == 0;
-        next.tasks[i] = match released.tasks[i] {
-            Job::Live { deadline, .. } if !done => {
-                if deadline == next.clock {
-                    missed = missed.or(Some(i as u8));
-                }
-                Job::Live { deadline, wait }
-            }
-            Job::Live { .. } => {
-                finished |= 1 << i;
-                Job::Idle { wait }
-            }
-            Job::Idle { .. } => Job::Idle { wait },
-        };
+        finished |= u16::from(end_jobs(&mut next, i, keeping)) << i;
+        if next.tasks[i].deadlines.contains(&Some(next.clock)) {
+            missed = missed.or(Some(i as u8));
+        }
     }
     if let Some(task) = missed {
         next = State::zeros(next.clock, Phase::Stopped(task));
@@ -336,4 +189,18 @@ pub fn go_on(table: &Table, released: &State, releases: u16, ran: &[Vertex]) -> 
         finished,
         missed,
     }
+}
+
+/// Step 5: takes out a task's jobs of which nothing remains; whether there was
+/// one. The newest goes first, for an end moves those behind it.
+fn end_jobs(state: &mut State, task: usize, keeping: Keeping) -> bool {
+    let mut any = false;
+    for age in (0..AGES).rev() {
+        let live = state.tasks[task].deadlines[age].is_some();
+        if live && state.work[job_at(task, age)] == 0 {
+            (keeping.give_up)(state, task, age);
+            any = true;
+        }
+    }
+    any
 }

@@ -86,7 +86,7 @@ fn read_task(bytes: &[u8], mark: usize, i: usize, table: &mut Table) -> Result<u
     need(u32::from(e) <= MOST_EDGES, 3, mark + 3)?;
     task.deadline = ticks(bytes, mark + 4, ticks_in_range)?;
     task.period = ticks(bytes, mark + 8, ticks_in_range)?;
-    need(task.deadline <= task.period, 5, mark + 8)?;
+    need(deadline_in_range(task.deadline, task.period), 5, mark + 8)?;
     let v = usize::from(task.v);
     let mut at = mark + 12;
     for cost in &mut table.costs[ENTRIES * i..][..v] {

@@ -2,8 +2,11 @@
 
 /// Entries for tasks, used or not; also the entries for vertices of a task.
 pub const ENTRIES: usize = 16;
-/// Length of the rows of costs and of remainings: sixteen a task.
+/// Length of the row of costs: sixteen a task.
 pub const ROW: usize = ENTRIES * ENTRIES;
+/// The live jobs that a task can have, and how many times T its D can be
+/// (document 02, M-109).
+pub const AGES: usize = 4;
 /// The largest file in bytes.
 pub const LARGEST: usize = 5_060;
 
@@ -61,11 +64,12 @@ impl Table {
     }
 }
 
-/// A task's sixteen places of a row.
-pub fn sixteen(row: &[u32; ROW], task: usize) -> &[u32; ENTRIES] {
-    row[ENTRIES * task..]
+/// A row's sixteen places with this number: a task's costs, or what remains of
+/// a job.
+pub fn sixteen(row: &[u32], at: usize) -> &[u32; ENTRIES] {
+    row[ENTRIES * at..]
         .first_chunk()
-        .expect("a row has sixteen places for each of sixteen tasks")
+        .expect("a row has sixteen places for each task or job")
 }
 
 /// A refusal on the way: number and place.
@@ -89,6 +93,22 @@ pub fn need(holds: bool, number: u8, place: usize) -> Result<(), Stop> {
 #[inline]
 pub fn ticks_in_range(ticks: u32) -> bool {
     (1..=MOST_TICKS).contains(&ticks)
+}
+
+/// Rule 5, for D and T within their range: D is at most four times T.
+#[inline]
+pub fn deadline_in_range(deadline: u32, period: u32) -> bool {
+    deadline <= AGES as u32 * period
+}
+
+/// The largest D that goes with a T.
+pub fn most_deadline(period: u32) -> u32 {
+    MOST_TICKS.min(AGES as u32 * period)
+}
+
+/// The smallest T that goes with a D.
+pub fn least_period(deadline: u32) -> u32 {
+    deadline.div_ceil(AGES as u32)
 }
 
 /// Rule 4's range of a cost.

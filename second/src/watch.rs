@@ -1,6 +1,6 @@
 //! The text that shows a table run, tick by tick.
 
-use crate::machine::{open, tick_table, Answer, Job, State, NO_VERTEX};
+use crate::machine::{job_at, open, tick_table, Answer, State, NO_VERTEX};
 use crate::reader::read;
 use crate::table::{Table, ENTRIES};
 use crate::verdict::NO_TASK;
@@ -117,13 +117,14 @@ fn tasks(set: u16) -> String {
 /// The vertices that ran, in rank order.
 fn vertices(answer: &Answer) -> String {
     let ran = answer.ran.iter().filter(|place| **place != NO_VERTEX);
-    list(ran.map(|(i, h)| format!("{i}.{h}")).collect())
+    list(ran.map(|(i, age, h)| format!("{i}.{age}.{h}")).collect())
 }
 
-/// What is left of the work of each live job, ascending by task.
+/// What is left of the work of each live job, ascending by task and age place.
 fn left(state: &State) -> String {
-    let live = (0..ENTRIES).filter(|i| matches!(state.tasks[*i], Job::Live { .. }));
-    list(live.map(|i| format!("{i}:{}", state.work[i])).collect())
+    let live = (0..ENTRIES).flat_map(|i| state.tasks[i].jobs().map(move |(age, _)| (i, age)));
+    let word = |(i, age)| format!("{i}.{age}:{}", state.work[job_at(i, age)]);
+    list(live.map(word).collect())
 }
 
 fn list(words: Vec<String>) -> String {

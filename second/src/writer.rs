@@ -45,7 +45,7 @@ fn check_task(task: &Task, costs: &[u32; ENTRIES], mark: usize) -> Result<usize,
     need(e <= MOST_EDGES, 3, mark + 3)?;
     need(ticks_in_range(task.deadline), 4, mark + 4)?;
     need(ticks_in_range(task.period), 4, mark + 8)?;
-    need(task.deadline <= task.period, 5, mark + 8)?;
+    need(deadline_in_range(task.deadline, task.period), 5, mark + 8)?;
     for (h, cost) in costs[..v].iter().enumerate() {
         need(cost_in_range(*cost), 4, mark + 12 + 4 * h)?;
     }

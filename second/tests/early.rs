@@ -5,7 +5,7 @@ use second::explore::*;
 use second::machine::*;
 use second::random::*;
 use second::sharp::SHARP;
-use second::table::{sixteen, Table, ENTRIES};
+use second::table::{Table, ENTRIES, ROW};
 use second::verdict::{Way, OLD};
 use std::collections::BTreeSet;
 
@@ -26,13 +26,13 @@ fn every_time_once() {
             times += 1;
             drawn.insert(state.remaining);
             for (at, rest) in state.remaining.iter().enumerate() {
-                let named = releases >> (at / ENTRIES) & 1 == 1;
+                let named = at < ROW && releases >> (at / ENTRIES) & 1 == 1;
                 let cost = if named { table.costs[at] } else { 0 };
                 assert!((cost.min(1)..=cost).contains(rest));
             }
-            (0..ENTRIES).for_each(|i| {
-                assert_eq!(state.work[i], summed(sixteen(&state.remaining, i)));
-            });
+            let mut summed_up = *state;
+            summed_up.sum_up();
+            assert_eq!(*state, summed_up);
             true
         });
         let of_task = |i: usize| table.costs_of(i).iter().map(|cost| (*cost).max(1));
@@ -61,10 +61,10 @@ fn early_ends_reach_more() {
 /// A job's own times: all of them small, all but one whole, or any.
 fn draw(r: &mut Random, table: &Table, released: &mut State, releases: u16) {
     let kind = r.below(3);
-    for i in (0..usize::from(table.n)).filter(|i| releases >> i & 1 == 1) {
+    for (i, age) in new_jobs(table, released, releases) {
         let lone = r.below(usize::from(table.tasks[i].v));
         for h in 0..usize::from(table.tasks[i].v) {
-            let rest = &mut released.remaining[ENTRIES * i + h];
+            let rest = &mut released.remaining[ENTRIES * job_at(i, age) + h];
             let any = r.range((*rest).min(1), *rest);
             *rest = match kind {
                 0 => any.min(2),
@@ -72,8 +72,8 @@ fn draw(r: &mut Random, table: &Table, released: &mut State, releases: u16) {
                 _ => any,
             };
         }
-        released.work[i] = summed(sixteen(&released.remaining, i));
     }
+    released.sum_up();
 }
 
 /// A random run: no miss, no chain of what truly remains longer than the ticks
@@ -81,24 +81,31 @@ fn draw(r: &mut Random, table: &Table, released: &mut State, releases: u16) {
 /// nothing to spare.
 fn run(r: &mut Random, table: &Table, ticks: usize) -> u32 {
     let mut state = State::zeros(r.number(), Phase::Running);
-    let (mut drawn, mut ran, mut full) = ([0; ENTRIES], [0; ENTRIES], 0);
+    let mut full = 0;
+    // Of each live job, by task and age place: the times drawn and the ticks run.
+    let mut jobs: [Vec<[u64; 2]>; ENTRIES] = Default::default();
     for _ in 0..ticks {
         let releases = releases(r, table, &state);
         let mut released = release(table, &state, releases);
         draw(r, table, &mut released, releases);
-        for i in (0..ENTRIES).filter(|i| releases >> i & 1 == 1) {
-            (drawn[i], ran[i]) = (released.work[i], 0);
+        for (i, age) in new_jobs(table, &released, releases) {
+            jobs[i].push([released.work[job_at(i, age)], 0]);
         }
         assert_eq!(chain_too_long(table, &released), None, "{table:?}");
         let chosen = choice(r, table, &released, true);
         full += u32::from(chosen.len() == usize::from(table.m));
-        chosen.iter().for_each(|(i, _)| ran[usize::from(*i)] += 1);
+        for (i, age, _) in &chosen {
+            jobs[usize::from(*i)][usize::from(*age)][1] += 1;
+        }
         let moved = go_on(table, &released, releases, &chosen);
         assert_eq!(moved.missed, None, "{table:?}");
         state = moved.state;
-        for i in 0..usize::from(table.n) {
-            if let Job::Live { .. } = state.tasks[i] {
-                assert_eq!(ran[i] + state.work[i], drawn[i]);
+        for (i, jobs) in jobs.iter_mut().enumerate() {
+            jobs.retain(|[drawn, ran]| ran < drawn);
+            let live = state.tasks[i].jobs().count();
+            assert_eq!(live, jobs.len());
+            for (age, [drawn, ran]) in jobs.iter().enumerate() {
+                assert_eq!(ran + state.work[job_at(i, age)], *drawn);
             }
         }
     }

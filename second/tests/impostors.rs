@@ -3,7 +3,6 @@
 use second::examples::*;
 use second::explore::due_rounded_down;
 use second::machine::*;
-use second::table::ENTRIES;
 use second::verdict::figures;
 use second::*;
 
@@ -27,7 +26,7 @@ fn rounding_down() {
 fn all_at_once_goes_well(table: &Table) -> bool {
     let mut state = State::zeros(0, Phase::Running);
     for _ in 0..240 {
-        let ready = (0..usize::from(table.n)).filter(|i| state.tasks[*i].wait() == 0);
+        let ready = (0..usize::from(table.n)).filter(|i| state.tasks[*i].wait == 0);
         let set = ready.fold(0, |set, i| set | 1 << i);
         let ticked = tick_table(table, &state, set);
         if ticked.answer.number != 0 {
@@ -68,7 +67,7 @@ fn spacing_after_an_idle_spell() {
     for _ in 1..20 {
         assert_eq!(tick_in_place(&TABLE_A, &mut state, 0).number, 0);
     }
-    assert!(state.tasks.iter().all(|job| *job == Job::Idle { wait: 0 }));
+    assert!(state.tasks.iter().all(|task| *task == TaskState::ZERO));
     for clock in [20, 1_000, u32::MAX - 1, u32::MAX, 0, 1, 11] {
         state.clock = clock;
         let idle = tick(&TABLE_A, &state, 0);
@@ -84,9 +83,9 @@ fn tick_plain_deadlines(bytes: &[u8], state: &State, releases: u16) -> Ticked {
     let mut ticked = tick(bytes, state, releases);
     let table = read(bytes).table;
     let before = release(&table, state, releases);
-    let deadline = |entry: &u64| match before.tasks[usize::from(vertex_of(*entry).0)] {
-        Job::Live { deadline, .. } => deadline,
-        Job::Idle { .. } => 0,
+    let deadline = |entry: &u64| {
+        let (task, age, _) = vertex_of(*entry);
+        before.tasks[usize::from(task)].deadlines[usize::from(age)]
     };
     let mut all = rank(&table, &before).all().to_vec();
     all.sort_by_key(|entry| (deadline(entry), vertex_of(*entry)));
@@ -122,7 +121,7 @@ fn a_successor_waits_for_the_next_tick() {
     let mut state = open(&bytes, 0).state;
     for h in 0..3 {
         let answer = tick_in_place(&bytes, &mut state, u16::from(h == 0));
-        assert_eq!(answer.ran[..2], [(0, h), NO_VERTEX]);
+        assert_eq!(answer.ran[..2], [(0, 0, h), NO_VERTEX]);
         assert_eq!((answer.number, answer.finished), (0, u16::from(h == 2)));
     }
 }
@@ -186,12 +185,11 @@ fn does_nothing(_: &[u8], state: &State, _: u16) -> Ticked {
 /// Runs every vertex to its end in the tick of its release.
 fn ends_all_at_once(bytes: &[u8], state: &State, releases: u16) -> Ticked {
     let mut ticked = tick(bytes, state, releases);
-    for i in 0..ENTRIES {
-        let wait = ticked.state.tasks[i].wait();
-        ticked.state.tasks[i] = Job::Idle { wait };
+    for task in &mut ticked.state.tasks {
+        *task = TaskState::idle(task.wait);
     }
-    ticked.state.remaining = [0; 256];
-    ticked.state.work = [0; 16];
+    ticked.state.remaining = [0; 1_024];
+    ticked.state.work = [0; 64];
     ticked
 }
 

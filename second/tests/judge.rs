@@ -26,10 +26,10 @@ fn refused(number: u8, row: usize) -> Ruling {
 /// Table A's rows of example P9, and on to tick 3.
 fn rows_of_a() -> Vec<Vec<u8>> {
     let ran: [(u16, &[Vertex]); 4] = [
-        (3, &[(1, 0), (1, 1)]),
-        (0, &[(1, 0), (1, 1)]),
-        (0, &[(0, 0)]),
-        (0, &[(0, 0)]),
+        (3, &[(1, 0, 0), (1, 0, 1)]),
+        (0, &[(1, 0, 0), (1, 0, 1)]),
+        (0, &[(0, 0, 0)]),
+        (0, &[(0, 0, 0)]),
     ];
     let rows = ran.iter().map(|(set, ran)| {
         let mut row = Vec::new();
@@ -60,22 +60,35 @@ fn table_a_is_legal_and_each_damage_has_its_number() {
     // Wrong marks and counts above m are 40 where the row is cut short.
     assert_eq!(judge(&TABLE_A, b"XR"), refused(40, 0));
     assert_eq!(judge(&TABLE_A, b"XR\0\0\xC8"), refused(40, 0));
-    assert_eq!(judge(&TABLE_A, b"JR\0\0\x03\0\0\0\x01\0"), refused(40, 0));
-    assert_eq!(with(1, b"JX\0\0\x02\x01\0\x01\x01"), refused(41, 1));
-    assert_eq!(with(1, b"JR\0\0\x03\0\0\x01\0\x01\x01"), refused(42, 1));
-    assert_eq!(with(1, b"JR\0\0\x02\x01\x01\x01\0"), refused(42, 1));
-    assert_eq!(with(1, b"JR\0\0\x02\x01\0\x01\0"), refused(42, 1));
+    assert_eq!(judge(&TABLE_A, b"JR\0\0\x02\0\0\0\x01\0"), refused(40, 0));
+    assert_eq!(with(1, b"JX\0\0\x02\x01\0\0\x01\0\x01"), refused(41, 1));
+    assert_eq!(
+        with(1, b"JR\0\0\x03\0\0\0\x01\0\0\x01\0\x01"),
+        refused(42, 1)
+    );
+    assert_eq!(with(1, b"JR\0\0\x02\x01\0\x01\x01\0\0"), refused(42, 1));
+    assert_eq!(with(1, b"JR\0\0\x02\x01\x01\0\x01\0\x01"), refused(42, 1));
+    assert_eq!(with(1, b"JR\0\0\x02\x01\0\0\x01\0\0"), refused(42, 1));
     // 31 before 33, and both before the choice.
-    assert_eq!(with(1, b"JR\x05\0\x02\x01\0\x01\x01"), refused(31, 1));
+    assert_eq!(with(1, b"JR\x05\0\x02\x01\0\0\x01\0\x01"), refused(31, 1));
     assert_eq!(with(1, b"JR\x01\0\x00"), refused(33, 1));
     // Not there, not live, a predecessor unfinished, nothing remaining.
-    assert_eq!(with(1, b"JR\0\0\x02\x01\0\x01\x02"), refused(44, 1));
-    assert_eq!(with(1, b"JR\0\0\x02\x01\0\x11\x00"), refused(44, 1));
-    assert_eq!(with(0, b"JR\x01\0\x01\x01\0"), refused(44, 0));
-    assert_eq!(with(0, b"JR\x03\0\x02\0\x01\x01\0"), refused(44, 0));
-    assert_eq!(with(2, b"JR\0\0\x01\x01\0"), refused(44, 2));
-    assert_eq!(with(1, b"JR\0\0\x01\x01\0"), refused(45, 1));
-    assert_eq!(with(0, b"JR\x03\0\x02\0\0\x01\0"), refused(46, 0));
+    assert_eq!(with(1, b"JR\0\0\x02\x01\0\0\x01\0\x02"), refused(44, 1));
+    assert_eq!(with(1, b"JR\0\0\x02\x01\0\0\x11\0\x00"), refused(44, 1));
+    assert_eq!(with(0, b"JR\x01\0\x01\x01\0\0"), refused(44, 0));
+    assert_eq!(with(0, b"JR\x03\0\x02\0\0\x01\x01\0\0"), refused(44, 0));
+    assert_eq!(with(2, b"JR\0\0\x01\x01\0\0"), refused(44, 2));
+    assert_eq!(with(1, b"JR\0\0\x01\x01\0\0"), refused(45, 1));
+    assert_eq!(with(0, b"JR\x03\0\x02\0\0\0\x01\0\0"), refused(46, 0));
+}
+
+#[test]
+fn an_age_place_without_a_job() {
+    let mut rows = rows_of_a();
+    for age in [1, 3, 4, 255] {
+        rows[1] = vec![b'J', b'R', 0, 0, 2, 1, 0, 0, 1, age, 1];
+        assert_eq!(judge(&TABLE_A, &rows.concat()), refused(44, 1));
+    }
 }
 
 #[test]
@@ -85,7 +98,7 @@ fn nothing_follows_a_miss() {
     table.tasks[1] = Task::ZERO;
     table.costs[16..].fill(0);
     table.tasks[0].deadline = 1;
-    let row = b"JR\x01\0\x01\0\0";
+    let row = b"JR\x01\0\x01\0\0\0";
     assert_eq!(judge_table(&table, row), legal(1, true));
     for stray in [&b"J"[..], b"JR\0\0\0", b"XR"] {
         let both = [&row[..], stray].concat();
@@ -118,13 +131,31 @@ fn legal_runs_are_accepted_and_cuts_are_not() {
     }
 }
 
+/// A state before any miss, and the rows that lead to it.
+fn led_to(r: &mut Random, table: &Table, rows: usize) -> (State, Vec<u8>) {
+    let mut journal = Vec::new();
+    let mut state = State::zeros(0, Phase::Running);
+    for _ in 0..r.below(rows) {
+        let set = releases(r, table, &state);
+        let before = release(table, &state, set);
+        let ran = choice(r, table, &before, true);
+        let moved = go_on(table, &before, set, &ran);
+        if moved.missed.is_some() {
+            break;
+        }
+        put_row(&mut journal, set, &ran);
+        state = moved.state;
+    }
+    (state, journal)
+}
+
 #[test]
 fn a_row_is_accepted_exactly_if_its_choice_is_legal() {
     let r = &mut Random::new(8);
     let (mut yes, mut no) = (0, 0);
     for _ in 0..20_000 {
         let table = busy_table(r);
-        let state = State::zeros(0, Phase::Running);
+        let (state, mut journal) = led_to(r, &table, 12);
         let set = releases(r, &table, &state);
         let before = release(&table, &state, set);
         let mut ran: Vec<Vertex> = choice(r, &table, &before, true);
@@ -133,13 +164,16 @@ fn a_row_is_accepted_exactly_if_its_choice_is_legal() {
         }
         if r.coin() {
             ran.retain(|_| !r.one_in(4));
-            ran.push((r.below(usize::from(table.n)) as u8, r.below(6) as u8));
+            ran.push((
+                r.below(usize::from(table.n)) as u8,
+                r.below_either(1, 4) as u8,
+                r.below(6) as u8,
+            ));
         }
         ran.sort_unstable();
         ran.dedup();
-        let mut row = Vec::new();
-        put_row(&mut row, set, &ran);
-        let accepted = judge_table(&table, &row).number == 0;
+        put_row(&mut journal, set, &ran);
+        let accepted = judge_table(&table, &journal).number == 0;
         assert_eq!(accepted, is_legal(&table, &before, &ran));
         yes += u32::from(accepted);
         no += u32::from(!accepted);

@@ -4,7 +4,7 @@ use second::examples::TABLE_A;
 use second::legal::{each_choice, is_legal};
 use second::machine::*;
 use second::random::*;
-use second::table::{sixteen, ENTRIES};
+use second::table::{AGES, ENTRIES};
 use second::*;
 
 /// Tables on which jobs live for some ticks and end or miss.
@@ -21,55 +21,82 @@ fn lively(r: &mut Random) -> Table {
 
 /// "A vertex is done when nothing of it remains and all its direct predecessors
 /// are done" (document 02, M-103), by descent.
-fn is_done(table: &Table, state: &State, i: usize, h: usize) -> bool {
-    let edge = |p: usize| table.tasks[i].succ[p] >> h & 1 == 1;
-    state.remaining[16 * i + h] == 0
-        && (0..ENTRIES).all(|p| !edge(p) || is_done(table, state, i, p))
+fn is_done(task: &Task, rest: &[u32; ENTRIES], h: usize) -> bool {
+    let edge = |p: usize| task.succ[p] >> h & 1 == 1;
+    rest[h] == 0 && (0..ENTRIES).all(|p| !edge(p) || is_done(task, rest, p))
+}
+
+fn is_held(task: &Task, rest: &[u32; ENTRIES], h: usize) -> bool {
+    let edge = |p: usize| task.succ[p] >> h & 1 == 1;
+    (0..ENTRIES).any(|p| edge(p) && !is_done(task, rest, p))
+}
+
+/// Ticks left of the job at an age place, if there is one, in wide numbers.
+fn left_plainly(state: &State, i: usize, age: usize) -> Option<i64> {
+    let wide = |deadline: u32| i64::from(deadline) - i64::from(state.clock);
+    state.tasks[i].deadlines[age].map(|deadline| wide(deadline).rem_euclid(1 << 32))
+}
+
+/// The rule of one live job.
+fn job_fits_plainly(table: &Table, state: &State, i: usize, age: usize) -> bool {
+    let (task, rest) = (&table.tasks[i], state.rest(i, age));
+    let left = left_plainly(state, i, age).unwrap();
+    let whole = |h: usize| !is_held(task, rest, h) || rest[h] == table.costs[16 * i + h];
+    let unused = (usize::from(task.v)..ENTRIES).all(|h| rest[h] == 0);
+    (1..=i64::from(task.deadline) - 1).contains(&left)
+        && (0..ENTRIES).all(|h| rest[h] <= table.costs[16 * i + h])
+        && rest.iter().any(|r| *r > 0)
+        && (0..ENTRIES).all(whole)
+        && unused
+}
+
+/// "Jobs are kept oldest first, each next deadline at least T ticks after the
+/// one before, the wait is below T and, while any is live, at least T minus D
+/// plus the newest one's ticks left" (document 02, M-109).
+fn task_fits_plainly(table: &Table, state: &State, i: usize) -> bool {
+    let (d, t) = (
+        i64::from(table.tasks[i].deadline),
+        i64::from(table.tasks[i].period),
+    );
+    let wait = i64::from(state.tasks[i].wait);
+    if i >= usize::from(table.n) {
+        return state.tasks[i].deadlines == [None; AGES] && wait == 0;
+    }
+    let mut good = wait < t;
+    for age in 0..AGES {
+        let Some(left) = left_plainly(state, i, age) else {
+            continue;
+        };
+        good &= job_fits_plainly(table, state, i, age);
+        // No gap before it, and none too near; so the last one is the newest.
+        if age > 0 {
+            let before = left_plainly(state, i, age - 1);
+            good &= before.is_some_and(|before| left >= before + t);
+        }
+        good &= wait >= t - d + left;
+    }
+    good
 }
 
 /// The state rule, told sentence by sentence in wide signed numbers.
 fn fits_plainly(table: &Table, state: &State) -> bool {
     let n = usize::from(table.n);
-    let Phase::Running = state.phase else {
-        let Phase::Stopped(task) = state.phase else {
-            unreachable!()
-        };
-        let idle = state.tasks.iter().all(|job| *job == Job::Idle { wait: 0 });
-        let nothing = state.remaining.iter().all(|r| *r == 0);
-        return usize::from(task) < n && idle && nothing && state.work == [0; ENTRIES];
-    };
     for i in 0..ENTRIES {
-        let task = &table.tasks[i];
-        let rest = |h: usize| i64::from(state.remaining[16 * i + h]);
-        let cost = |h: usize| i64::from(table.costs[16 * i + h]);
-        let zeros = (0..ENTRIES).all(|h| rest(h) == 0);
-        let (d, t) = (i64::from(task.deadline), i64::from(task.period));
-        let good = match state.tasks[i] {
-            Job::Idle { wait } if i >= n => wait == 0 && zeros,
-            Job::Live { .. } if i >= n => false,
-            Job::Idle { wait } => zeros && i64::from(wait) < t,
-            Job::Live { deadline, wait } => {
-                let left = (i64::from(deadline) - i64::from(state.clock)).rem_euclid(1 << 32);
-                let edge = |p: usize, h: usize| task.succ[p] >> h & 1 == 1;
-                let whole = |h: usize| {
-                    let held = (0..ENTRIES).any(|p| edge(p, h) && !is_done(table, state, i, p));
-                    !held || rest(h) == cost(h)
-                };
-                let unused = (usize::from(task.v)..ENTRIES).all(|h| rest(h) == 0);
-                (1..=d - 1).contains(&left)
-                    && i64::from(wait) == t - d + left
-                    && (0..ENTRIES).all(|h| rest(h) <= cost(h))
-                    && !zeros
-                    && (0..ENTRIES).all(whole)
-                    && unused
+        for age in 0..AGES {
+            let rest = state.rest(i, age);
+            let live = state.tasks[i].deadlines[age].is_some();
+            let sum: i128 = rest.iter().map(|r| i128::from(*r)).sum();
+            let stored = i128::from(state.work[16 * age + i]);
+            if stored != sum || !live && rest.iter().any(|r| *r != 0) {
+                return false;
             }
-        };
-        let stored = i128::from(state.work[i]);
-        if !good || stored != (0..ENTRIES).map(|h| i128::from(rest(h))).sum() {
-            return false;
         }
     }
-    true
+    if let Phase::Stopped(task) = state.phase {
+        let nothing = |kept: &TaskState| kept.wait == 0 && kept.deadlines == [None; AGES];
+        return usize::from(task) < n && state.tasks.iter().all(nothing);
+    }
+    (0..ENTRIES).all(|i| task_fits_plainly(table, state, i))
 }
 
 #[test]
@@ -100,21 +127,21 @@ fn fitting_told_twice() {
 fn runs_plainly(table: &Table, released: &State) -> Vec<Vertex> {
     let mut available = Vec::new();
     for i in 0..ENTRIES {
-        for h in 0..ENTRIES {
-            let rest = released.remaining[16 * i + h];
-            let edge = |p: usize| table.tasks[i].succ[p] >> h & 1 == 1;
-            let free = (0..ENTRIES).all(|p| !edge(p) || is_done(table, released, i, p));
-            if let Job::Live { deadline, .. } = released.tasks[i] {
-                if rest > 0 && free {
-                    let left = deadline.wrapping_sub(released.clock);
-                    available.push((left, i as u8, h as u8));
+        for age in 0..AGES {
+            let Some(left) = left_plainly(released, i, age) else {
+                continue;
+            };
+            let rest = released.rest(i, age);
+            for h in 0..ENTRIES {
+                if rest[h] > 0 && !is_held(&table.tasks[i], rest, h) {
+                    available.push((left, (i as u8, age as u8, h as u8)));
                 }
             }
         }
     }
     available.sort();
     available.truncate(usize::from(table.m));
-    available.iter().map(|(_, i, h)| (*i, *h)).collect()
+    available.iter().map(|(_, vertex)| *vertex).collect()
 }
 
 #[test]
@@ -150,9 +177,9 @@ fn a_tick_keeps_fitting() {
         let released = release(&table, &state, set);
         assert!(is_legal(&table, &released, &ran));
         assert_eq!(ran, runs_plainly(&table, &released));
-        let waits = ticked.state.tasks.iter().map(|job| job.wait());
+        let waits = ticked.state.tasks.iter().map(|task| task.wait);
         for (i, wait) in waits.enumerate().filter(|_| answer.number == 0) {
-            let before = state.tasks[i].wait();
+            let before = state.tasks[i].wait;
             let named = set >> i & 1 == 1;
             let period = table.tasks[i].period;
             let after = if named { period - 1 } else { before.max(1) - 1 };
@@ -162,45 +189,60 @@ fn a_tick_keeps_fitting() {
     assert!(missed > 1_000 && went_on > 20_000, "{missed} {went_on}");
 }
 
-/// From opening: times run since release, plus what remains, equals vol.
+/// The ticks run of each live job, by task and age place.
+type RunTicks = [Vec<u64>; ENTRIES];
+
+/// "For each live job: the number of times its vertices stood in the run lists
+/// since its release, plus what remains, equals its vol"; its age place falls as
+/// older ones end.
+fn conserved(table: &Table, set: u16, ticked: &Ticked, ran: &mut RunTicks) {
+    let listed = ticked.answer.ran.iter().filter(|v| **v != NO_VERTEX);
+    for (i, jobs) in ran.iter_mut().enumerate() {
+        if set >> i & 1 == 1 {
+            jobs.push(0);
+        }
+        for (_, age, _) in listed.clone().filter(|v| usize::from(v.0) == i) {
+            jobs[usize::from(*age)] += 1;
+        }
+        let vol: u64 = table.costs_of(i).iter().map(|c| u64::from(*c)).sum();
+        let before = jobs.len();
+        jobs.retain(|count| *count < vol);
+        let finished = ticked.answer.finished >> i & 1 == 1;
+        assert_eq!(finished, jobs.len() < before);
+        if ticked.answer.number == 34 {
+            continue;
+        }
+        assert_eq!(ticked.state.tasks[i].jobs().count(), jobs.len());
+        for (age, count) in jobs.iter().enumerate() {
+            let rest: u64 = ticked
+                .state
+                .rest(i, age)
+                .iter()
+                .map(|x| u64::from(*x))
+                .sum();
+            assert_eq!((ticked.state.work[16 * age + i], count + rest), (rest, vol));
+        }
+    }
+}
+
 #[test]
 fn conservation_on_random_runs() {
     let r = &mut Random::new(43);
-    let mut ends = [0u32; 2];
+    let (mut ends, mut most) = ([0u32; 2], 0);
     for _ in 0..3_000 {
         let table = lively(r);
         let bytes = file(&table);
         let clock = if r.coin() { u32::MAX - 9 } else { r.number() };
         let mut state = open(&bytes, clock).state;
         let mut kept = state;
-        let mut ran = [0u64; ENTRIES];
+        let mut ran = RunTicks::default();
         for _ in 0..60 {
             let set = releases(r, &table, &state);
-            for (i, count) in ran.iter_mut().enumerate() {
-                *count *= u64::from(set >> i & 1 == 0);
-            }
             let ticked = tick(&bytes, &state, set);
             assert_eq!(tick_in_place(&bytes, &mut kept, set), ticked.answer);
             assert_eq!(kept, ticked.state);
-            for (i, _) in ticked.answer.ran.iter().filter(|v| **v != NO_VERTEX) {
-                ran[usize::from(*i)] += 1;
-            }
-            let vol = |i: usize| -> u64 { table.costs_of(i).iter().map(|c| u64::from(*c)).sum() };
-            for (i, count) in ran.iter().enumerate() {
-                let finished = ticked.answer.finished >> i & 1 == 1;
-                let rest: u64 = sixteen(&ticked.state.remaining, i)
-                    .iter()
-                    .map(|x| u64::from(*x))
-                    .sum();
-                assert_eq!(ticked.state.work[i], rest);
-                if finished {
-                    assert_eq!(*count, vol(i));
-                    assert!(matches!(ticked.state.tasks[i], Job::Idle { .. }));
-                }
-                if let Job::Live { .. } = ticked.state.tasks[i] {
-                    assert_eq!(count + rest, vol(i));
-                }
-            }
+            conserved(&table, set, &ticked, &mut ran);
+            most = most.max(ran.iter().map(Vec::len).max().unwrap());
             state = ticked.state;
             ends[usize::from(ticked.answer.number == 34)] += 1;
             if ticked.answer.number != 0 {
@@ -209,6 +251,7 @@ fn conservation_on_random_runs() {
         }
     }
     assert!(ends[0] > 50_000 && ends[1] > 300, "{ends:?}");
+    assert!(most > 2, "{most}");
 }
 
 #[test]
@@ -242,7 +285,7 @@ fn a_refused_tick_changes_nothing() {
         };
         let n = usize::from(found.table.n);
         let past = named(&|i| i >= n);
-        let early = named(&|i| state.tasks[i].wait() > 0);
+        let early = named(&|i| state.tasks[i].wait > 0);
         let (number, place, task) = if found.number != 0 {
             (found.number, found.place, 255)
         } else if !fits_plainly(&found.table, &state) {
@@ -269,37 +312,49 @@ fn a_refused_tick_changes_nothing() {
     }
 }
 
+/// Every set of these places that is legal, told by the definition alone.
+fn legal_sets(table: &Table, released: &State, places: &[Vertex]) -> Vec<Vec<Vertex>> {
+    let sets = (0..1u32 << places.len()).map(|bits| {
+        let chosen = (0..places.len()).filter(|at| bits >> at & 1 == 1);
+        chosen.map(|at| places[at]).collect()
+    });
+    let mut legal: Vec<_> = sets
+        .filter(|set: &Vec<Vertex>| is_legal(table, released, set))
+        .collect();
+    legal.sort();
+    legal
+}
+
 #[test]
 fn legal_choices_are_all_sets_that_the_rule_allows() {
     let r = &mut Random::new(45);
+    let mut looked = 0;
     for _ in 0..3_000 {
         let table = tiny_table(r, true);
         let state = reached(r, &table, 12);
         let set = releases(r, &table, &state);
         let released = release(&table, &state, set);
-        let mut listed = Vec::new();
+        // What may run, and a few others.
+        let available = rank(&table, &released);
+        let mut places: Vec<_> = available.all().iter().copied().map(vertex_of).collect();
+        places.extend([(0, 0, 0), (0, 1, 0), (1, 0, 1), (2, 3, 2)]);
+        places.sort();
+        places.dedup();
+        if places.len() > 13 {
+            continue;
+        }
+        looked += 1;
+        let mut sets = Vec::new();
         each_choice(&table, &released, |choice| {
-            listed.push(choice.to_vec());
+            let mut set = choice.to_vec();
+            set.sort();
+            sets.push(set);
             true
         });
-        listed.sort();
-        // Every subset of the nine places, told by the definition alone.
-        let mut allowed = Vec::new();
-        for bits in 0..1u32 << 9 {
-            let choice: Vec<Vertex> = (0..9u8)
-                .filter(|at| bits >> at & 1 == 1)
-                .map(|at| (at / 3, at % 3))
-                .collect();
-            if is_legal(&table, &released, &choice) {
-                allowed.push(choice);
-            }
-        }
-        let mut sets = listed.clone();
-        sets.iter_mut().for_each(|choice| choice.sort());
         sets.sort();
-        allowed.sort();
-        assert_eq!(sets, allowed);
+        assert_eq!(sets, legal_sets(&table, &released, &places));
     }
+    assert!(looked > 2_500, "{looked}");
 }
 
 #[test]
@@ -316,6 +371,6 @@ fn a_chain_of_ticks_by_hand() {
     }
     assert_eq!(lists, [2, 2, 1, 1, 2, 1, 1, 0]);
     assert_eq!(ends, [0, 2, 0, 0, 0, 0, 1, 0]);
-    assert_eq!(state.tasks[0], Job::Idle { wait: 4 });
-    assert_eq!(state.tasks[1], Job::Idle { wait: 0 });
+    assert_eq!(state.tasks[0], TaskState::idle(4));
+    assert_eq!(state.tasks[1], TaskState::idle(0));
 }

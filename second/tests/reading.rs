@@ -64,9 +64,6 @@ fn each_number_at_its_place() {
     for at in [16, 20, 24, 44, 48, 12, 40] {
         gives(&with(&[(at, &million)]), 0, 0);
     }
-    gives(&with(&[(8, &[13])]), 5, 12);
-    gives(&with(&[(40, &[5])]), 5, 40);
-    gives(&with(&[(8, &[12])]), 0, 0);
     for edge in [[3, 0], [0, 3], [0, 0], [1, 1], [255, 0], [0, 255]] {
         gives(&with(&[(28, &edge)]), 6, 28);
     }
@@ -81,10 +78,27 @@ fn each_number_at_its_place() {
 }
 
 #[test]
+fn d_up_to_four_times_t() {
+    gives(&with(&[(8, &[49])]), 5, 12);
+    gives(&with(&[(40, &[1])]), 5, 40);
+    for deadline in [12, 13, 48] {
+        gives(&with(&[(8, &[deadline])]), 0, 0);
+    }
+    gives(&with(&[(40, &[2])]), 0, 0);
+    // D's own range stays.
+    let [less, quarter, million, above] =
+        [249_999, 250_000, 1_000_000, 1_000_001].map(u32::to_le_bytes);
+    gives(&with(&[(8, &million), (12, &less)]), 5, 12);
+    gives(&with(&[(8, &million), (12, &quarter)]), 0, 0);
+    gives(&with(&[(8, &above), (12, &million)]), 4, 8);
+}
+
+#[test]
 fn order_of_the_tests() {
     // 4 goes before 5 at T; 1 before both.
     gives(&with(&[(12, &[0])]), 4, 12);
-    gives(&with(&[(8, &[13])])[..15], 1, 12);
+    gives(&with(&[(8, &[49])])[..15], 1, 12);
+    gives(&with(&[(8, &[49]), (12, &[0])]), 4, 12);
     // A wrong byte of a field cut short is 1; a field before it goes first.
     gives(&[0x55], 1, 0);
     gives(&[0x55, 0x42], 2, 0);

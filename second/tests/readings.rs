@@ -156,16 +156,13 @@ fn d15_thirty_before_thirty_two() {
 fn d16_a_stopped_state_is_zero() {
     let base = State::zeros(9, Phase::Stopped(0));
     let mut live = base;
-    live.tasks[1] = Job::Live {
-        deadline: 0,
-        wait: 0,
-    };
+    live.tasks[1].deadlines[3] = Some(0);
     let mut waits = base;
-    waits.tasks[0] = Job::Idle { wait: 1 };
+    waits.tasks[0].wait = 1;
     let mut rest = base;
-    rest.remaining[255] = 1;
+    rest.remaining[1_023] = 1;
     let mut both = rest;
-    both.work[15] = 1;
+    both.work[63] = 1;
     for state in [live, waits, rest, both] {
         assert_eq!(tick(&TABLE_A, &state, 0).answer.number, 30);
     }
@@ -198,7 +195,7 @@ fn d17_a_miss_hands_out_its_runs_and_ends() {
     let ticked = tick(&bytes, &open(&bytes, u32::MAX).state, 0b111);
     let answer = ticked.answer;
     assert_eq!((answer.number, answer.task), (34, 0));
-    assert_eq!(answer.ran[..3], [(0, 0), (1, 0), NO_VERTEX]);
+    assert_eq!(answer.ran[..3], [(0, 0, 0), (1, 0, 0), NO_VERTEX]);
     assert_eq!(answer.finished, 0b010);
     assert_eq!(ticked.state, State::zeros(0, Phase::Stopped(0)));
     // The last unit in the tick before the deadline is no miss.
@@ -230,22 +227,24 @@ fn d18_thirty_one_before_thirty_three() {
 fn d19_ticks_left_from_one_to_d_less_one() {
     let live = |left: u32, wait: u32| {
         let mut state = State::zeros(u32::MAX - 1, Phase::Running);
-        let deadline = state.clock.wrapping_add(left);
-        state.tasks[0] = Job::Live { deadline, wait };
-        state.remaining[0] = 1;
-        state.work[0] = 1;
+        let mut rest = [0; ENTRIES];
+        rest[0] = 1;
+        state.put_job(0, 0, state.clock.wrapping_add(left), &rest);
+        state.tasks[0].wait = wait;
         state
     };
     let one = row_of(&[(1, 5)]);
     for left in [0, 1, 2, u32::MAX] {
         assert!(!fits(&one, &live(left, 4u32.wrapping_add(left))));
     }
+    // The wait is at least T - D plus the ticks left, and below T.
     let four = row_of(&[(4, 5)]);
     for left in 0..6 {
         let sound = (1..4).contains(&left);
-        assert_eq!(fits(&four, &live(left, 1 + left)), sound);
-        assert!(!fits(&four, &live(left, left)));
-        assert!(!fits(&four, &live(left, left + 2)));
+        for wait in 0..7 {
+            let within = (1 + left..5).contains(&wait);
+            assert_eq!(fits(&four, &live(left, wait)), sound && within);
+        }
     }
     assert!(!fits(&four, &live(u32::MAX, 0)));
 }
@@ -256,12 +255,8 @@ fn d56_a_fitting_state_need_not_be_reachable() {
     // on two processors by this rule, yet it fits, and so does what follows.
     let a = table_a();
     let mut state = State::zeros(100, Phase::Running);
-    state.tasks[0] = Job::Live {
-        deadline: 101,
-        wait: 3,
-    };
-    state.remaining[..3].copy_from_slice(&[2, 3, 1]);
-    state.work[0] = 6;
+    state.put_job(0, 0, 101, a.costs_of(0));
+    state.tasks[0].wait = 3;
     assert!(fits(&a, &state));
     let ticked = tick(&TABLE_A, &state, 0);
     assert_eq!((ticked.answer.number, ticked.answer.task), (34, 0));
@@ -271,7 +266,7 @@ fn d56_a_fitting_state_need_not_be_reachable() {
 #[test]
 fn d20_an_idle_task_has_no_deadline() {
     let state = open(&TABLE_A, 3).state;
-    assert!(state.tasks.iter().all(|job| *job == Job::Idle { wait: 0 }));
+    assert!(state.tasks.iter().all(|task| *task == TaskState::ZERO));
 }
 
 #[test]
@@ -347,13 +342,14 @@ fn running_and_stopped() -> [State; 2] {
 fn d53_a_stored_number_that_differs_is_thirty() {
     for (state, number) in running_and_stopped().into_iter().zip([0, 32]) {
         assert_eq!(tick(&TABLE_A, &state, 0).answer.number, number);
-        // Task 0 is live or stopped, task 1 idle or stopped at, 2 and 15 unused.
-        for task in [0, 1, 2, 15] {
+        // Task 0 is live or stopped, task 1 idle or stopped at, 2 and 15 unused;
+        // from 16 on places without a job.
+        for job in [0, 1, 2, 15, 16, 17, 48, 63] {
             for wrong in [1, 4, 6, 1 << 32, 5 + (1 << 32), u64::MAX] {
                 let mut state = state;
-                state.work[task] = state.work[task].wrapping_add(wrong);
+                state.work[job] = state.work[job].wrapping_add(wrong);
                 let ticked = tick(&TABLE_A, &state, 0);
-                assert_eq!(ticked.answer.number, 30, "{task} {wrong}");
+                assert_eq!(ticked.answer.number, 30, "{job} {wrong}");
                 assert_eq!(ticked.state, state);
             }
         }
@@ -364,7 +360,7 @@ fn d53_a_stored_number_that_differs_is_thirty() {
 fn d53_stored_work_over_a_run() {
     let [running, stopped] = running_and_stopped();
     let with = |work: u64| {
-        let mut row = [0; 16];
+        let mut row = [0; 64];
         row[0] = work;
         row
     };

@@ -8,7 +8,7 @@ use second::examples::{table_lowest, table_p5, REPORT_A, TABLE_A};
 use second::explore::small_tables;
 use second::random::*;
 use second::sharp::*;
-use second::table::{ENTRIES, MOST_TICKS};
+use second::table::{least_period, most_deadline, ENTRIES, MOST_TICKS};
 use second::verdict::{figures, judge};
 use second::*;
 
@@ -260,12 +260,18 @@ fn one_vertex_too_long() {
     assert!(text.ends_with("\nrefuse 22 task 0 margin 0 chain 0\n"));
 }
 
-const LEAST: i64 = -120_000_225_000_000;
+/// What task 0 adds at the most: a chain of n vertices takes (m - 1) times its
+/// sum and is due at most D, D - T, D - 2 T and D - 3 T, 2,500,000 in all; a
+/// vertex beside it is due as much, but takes less than the 7,000,000 that it
+/// would in the chain. So all sixteen stand in the chain. The 240 others are due
+/// D (D + 1) / 2 each, no tail and T = 1.
+const LEAST: i64 = 8_000_000 - 7 * 16_000_000 - 2_500_000 - 240 * 500_000_500_000;
 const MOST: i64 = 8_000_000;
 
 #[test]
 fn both_ends_of_the_margin() {
     let table = table_lowest();
+    assert_eq!(LEAST, -120_000_226_500_000);
     assert_eq!(short(&file(&table)), (22, 0, LEAST));
     let tails = all_tails(&table);
     let due = sharp_due(&table, &tails, 0, part_by_the_word);
@@ -312,12 +318,12 @@ fn change_to_an_end(r: &mut Random, table: &mut Table) {
     match r.below(6) {
         0 => table.m = r.pick(&[1, 8]),
         1 => task.succ = random_edges(r, v, density),
-        2 => task.deadline = r.pick(&[1, task.period]),
-        3 => task.period = r.pick(&[task.deadline, MOST_TICKS]),
+        2 => task.deadline = r.pick(&[1, task.period, most_deadline(task.period)]),
+        3 => task.period = r.pick(&[least_period(task.deadline), task.deadline, MOST_TICKS]),
         4 => table.costs[at] = r.pick(&[0, 1, MOST_TICKS]),
         _ => {
-            task.period = r.pick(&[1, 2, MOST_TICKS]);
-            task.deadline = task.period;
+            task.period = r.pick(&[1, 2, 250_000, MOST_TICKS]);
+            task.deadline = r.pick(&[task.period, most_deadline(task.period)]);
         }
     }
 }

@@ -106,7 +106,7 @@ fn cases_for_the_verdict() {
         assert!(of(number).count() > 10, "number {number}");
     }
     let margins = || answers.iter().map(|a| a.verdict.margin);
-    assert_eq!(margins().min(), Some(-240_000_120_000_000));
+    assert_eq!(margins().min(), Some(-240_000_168_000_000));
     assert_eq!(margins().max(), Some(8_000_000));
     for (case, answer) in cases.iter().zip(&answers) {
         assert_eq!(judged(&OLD, case), *answer);
@@ -144,7 +144,7 @@ fn cases_for_the_sharp_verdict() {
     }
     assert!(of(22).any(|a| a.verdict.margin == 0));
     let margins = || answers.iter().map(|a| a.verdict.margin);
-    assert_eq!(margins().min(), Some(-120_000_225_000_000));
+    assert_eq!(margins().min(), Some(-120_000_226_500_000));
     assert_eq!(margins().max(), Some(8_000_000));
     let pairs = cases.iter().zip(&answers);
     let apart = pairs.filter(|(case, answer)| {

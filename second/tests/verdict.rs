@@ -1,7 +1,7 @@
 //! The verdict against figures told plainly from their definition.
 
 use second::random::*;
-use second::table::{ENTRIES, MOST_TICKS, ROW};
+use second::table::{least_period, ENTRIES, MOST_TICKS, ROW};
 use second::verdict::{figures, judge, Figures};
 use second::*;
 
@@ -114,7 +114,7 @@ fn long_but_not_negative(table: &Table) -> bool {
 #[test]
 fn no_table_is_too_long_without_a_negative_margin() {
     let (mut tried, mut longer) = (0, 0);
-    for code in 0..8 * 5 * 3 * 5 * 5 * 2 * 4 * 4 {
+    for code in 0..8 * 5 * 4 * 5 * 5 * 2 * 4 * 4 {
         let mut rest = code;
         let mut digit = |base: u32| {
             let low = rest % base;
@@ -123,14 +123,19 @@ fn no_table_is_too_long_without_a_negative_margin() {
         };
         let m = digit(8) as u8 + 1;
         let deadline = digit(5) + 1;
-        let first = [deadline, deadline + digit(3), digit(5) + 1, digit(5) + 1];
+        // T as short as may be, or D less one, or D, or longer.
+        let period = match digit(4) {
+            0 => least_period(deadline),
+            more => (deadline + more - 2).max(1),
+        };
+        let first = [deadline, period, digit(5) + 1, digit(5) + 1];
         let joined = digit(2) == 1;
         let table = pair(m, first, joined, [4 * digit(4) + 1, digit(4) + 1]);
         assert!(!long_but_not_negative(&table), "{table:?}");
         tried += 1;
         longer += u32::from(figures(&table, 0).len > i64::from(deadline));
     }
-    assert!(tried == 96_000 && longer > 20_000, "{tried} {longer}");
+    assert!(tried == 128_000 && longer > 20_000, "{tried} {longer}");
     let r = &mut Random::new(34);
     for _ in 0..3_000 {
         let n = r.below(6) + 1;
@@ -151,11 +156,11 @@ fn both_ends_of_the_margin() {
     for (i, task) in table.tasks.iter_mut().enumerate() {
         task.v = 16;
         task.deadline = if i == 0 { MOST_TICKS } else { 1 };
-        task.period = task.deadline;
+        task.period = least_period(task.deadline);
         task.succ = std::array::from_fn(|h| (0xFFFEu32 << h) as u16);
     }
     let answer = agree_margin(&table);
-    assert_eq!(answer, (20, 0, -240_000_120_000_000));
+    assert_eq!(answer, (20, 0, -240_000_168_000_000));
     let mut table = Table {
         m: 8,
         n: 1,

@@ -22,16 +22,16 @@ fn table_a() {
     let text = shown(&TABLE_A, 0, &[3, 0, 0, 0, 0, 2, 0, 2, 0x8001, 0]);
     let expected = "\
 open 0 processors 2 tasks 2
-tick 0 release 0 1 run 1.0 1.1 finish - left 0:6 1:2
-tick 1 release - run 1.0 1.1 finish 1 left 0:6
-tick 2 release - run 0.0 finish - left 0:5
-tick 3 release - run 0.0 finish - left 0:4
-tick 4 release - run 0.1 0.2 finish - left 0:2
+tick 0 release 0 1 run 1.0.0 1.0.1 finish - left 0.0:6 1.0:2
+tick 1 release - run 1.0.0 1.0.1 finish 1 left 0.0:6
+tick 2 release - run 0.0.0 finish - left 0.0:5
+tick 3 release - run 0.0.0 finish - left 0.0:4
+tick 4 release - run 0.0.1 0.0.2 finish - left 0.0:2
 tick 5 release 1 refuse 33 task 1
-tick 5 release - run 0.1 finish - left 0:1
-tick 6 release 1 run 0.1 1.0 finish 0 left 1:3
+tick 5 release - run 0.0.1 finish - left 0.0:1
+tick 6 release 1 run 0.0.1 1.0.0 finish 0 left 1.0:3
 tick 7 release 0 15 refuse 31 task 15
-tick 7 release - run 1.0 1.1 finish - left 1:1
+tick 7 release - run 1.0.0 1.0.1 finish - left 1.0:1
 ";
     assert_eq!(text, expected);
 }
@@ -47,7 +47,10 @@ fn a_miss() {
         &[3, 0, 0, 0, 0, 0, 2, 0, 0, 0, 0, 0, 0, 1],
     );
     let last: Vec<&str> = text.lines().rev().take(3).collect();
-    assert_eq!(last[2], "tick 10 release - run 1.0 finish - left - miss 1");
+    assert_eq!(
+        last[2],
+        "tick 10 release - run 1.0.0 finish - left - miss 1"
+    );
     assert_eq!(last[1], "tick 11 release - refuse 32");
     assert_eq!(last[0], "tick 11 release 0 refuse 32");
 }
@@ -97,10 +100,14 @@ fn cases_for_the_watch_program() {
     }
     assert!(count(" refuse 31 task ") > 20 && count(" refuse 33 task ") > 20);
     assert!(count(" refuse 32\n") > 20 && count(" miss ") > 20);
-    assert!(count(" left - miss ") > 20 && count(" left 0:") > 100 && count(" left -\n") > 100);
+    assert!(count(" left - miss ") > 20 && count(" left 0.0:") > 100 && count(" left -\n") > 100);
     assert!(count("release -") > 100 && count("run -") > 100 && count("finish -") > 100);
     assert!(count("tick 4294967295 ") > 10 && count("tick 0 ") > 10);
     assert_eq!(count(" refuse 30"), 0);
+    // Up to four jobs of a task that run, and three after a tick.
+    for part in [" 0.1.0", " 0.2.0", " 0.3.0", " 0.1:", " 0.2:", " 1.1."] {
+        assert!(count(part) > 5, "{part}: {}", count(part));
+    }
 }
 
 /// What a run stands for comes back from its input.

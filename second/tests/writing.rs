@@ -53,8 +53,10 @@ fn each_number_at_its_place() {
     assert_eq!(a_with(|t| t.tasks[1].v = 17), (3, 34));
     assert_eq!(a_with(|t| t.tasks[0].deadline = 0), (4, 8));
     assert_eq!(a_with(|t| t.tasks[0].period = 1_000_001), (4, 12));
-    assert_eq!(a_with(|t| t.tasks[0].deadline = 13), (5, 12));
-    assert_eq!(a_with(|t| t.tasks[1].period = 5), (5, 40));
+    assert_eq!(a_with(|t| t.tasks[0].deadline = 48), (0, 52));
+    assert_eq!(a_with(|t| t.tasks[0].deadline = 49), (5, 12));
+    assert_eq!(a_with(|t| t.tasks[1].period = 2), (0, 52));
+    assert_eq!(a_with(|t| t.tasks[1].period = 1), (5, 40));
     assert_eq!(a_with(|t| t.costs[2] = 0), (0, 52));
     assert_eq!(a_with(|t| t.costs[2] = 1_000_001), (4, 24));
     assert_eq!(a_with(|t| t.costs[16] = 1_000_000), (0, 52));

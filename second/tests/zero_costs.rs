@@ -6,7 +6,7 @@ use second::explore::{explore, runs_early, small_tables, How, KeySet, Wrong, STA
 use second::judge::{judge, put_row};
 use second::machine::*;
 use second::random::*;
-use second::table::{sixteen, ENTRIES};
+use second::table::ENTRIES;
 use second::verdict::figures;
 use second::*;
 
@@ -40,7 +40,7 @@ fn played(table: &Table) -> (Vec<Vec<u8>>, usize) {
         assert_eq!(answer.number, 0);
         assert!(fits(table, &state));
         let ran = answer.ran.iter().filter(|v| **v != NO_VERTEX);
-        lists.push(ran.map(|(_, h)| *h).collect());
+        lists.push(ran.map(|(_, _, h)| *h).collect());
         if answer.finished == 1 {
             return (lists.clone(), lists.len() - 1);
         }
@@ -94,7 +94,7 @@ fn a_join_waits_for_every_branch() {
     let released = release(&table, &State::zeros(0, Phase::Running), 1);
     let vertices = |ranked: Ranked| -> Vec<u8> {
         let all = ranked.all().iter();
-        all.map(|entry| vertex_of(*entry).1).collect()
+        all.map(|entry| vertex_of(*entry).2).collect()
     };
     assert_eq!(vertices(rank(&table, &released)), [1, 2]);
     let weaker = rank_by(&table, &released, held_by_remaining);
@@ -142,7 +142,7 @@ fn a_job_of_nothing_ends_in_its_release_tick() {
         assert_eq!((answer.number, answer.task), (0, 255));
         assert_eq!((answer.ran, answer.finished), ([NO_VERTEX; 8], 1));
         let wait = period - 1;
-        assert_eq!(ticked.state.tasks[0], Job::Idle { wait });
+        assert_eq!(ticked.state.tasks[0], TaskState::idle(wait));
         assert_eq!(ticked.state.clock, 0);
         let early = tick(&bytes, &ticked.state, 1).answer;
         let again = if wait == 0 { (0, 255) } else { (33, 0) };
@@ -155,7 +155,7 @@ fn a_job_of_nothing_ends_in_its_release_tick() {
     let bytes = file(&table);
     let answer = tick(&bytes, &open(&bytes, 0).state, 3).answer;
     assert_eq!((answer.number, answer.task, answer.finished), (34, 1, 1));
-    assert_eq!(answer.ran[0], (1, 0));
+    assert_eq!(answer.ran[0], (1, 0, 0));
 }
 
 /// D49: "some remaining above 0" stays, so no live job of an all-zero task fits.
@@ -164,11 +164,8 @@ fn a_live_job_of_nothing_never_fits() {
     let table = lone(1, 5, 5, &[0, 0], &[(0, 1)]);
     for left in 0..7 {
         let mut state = State::zeros(10, Phase::Running);
-        let deadline = 10 + left;
-        state.tasks[0] = Job::Live {
-            deadline,
-            wait: left,
-        };
+        state.put_job(0, 0, 10 + left, &[0; ENTRIES]);
+        state.tasks[0].wait = left;
         assert!(!fits(&table, &state));
         assert_eq!(tick(&file(&table), &state, 0).answer.number, 30);
     }
@@ -195,12 +192,10 @@ fn the_state_rule() {
     let table = fork_and_join(2);
     let with = |rest: [u32; 5]| {
         let mut state = State::zeros(0, Phase::Running);
-        state.tasks[0] = Job::Live {
-            deadline: 4,
-            wait: 4,
-        };
-        state.remaining[..5].copy_from_slice(&rest);
-        state.work[0] = rest.iter().map(|ticks| u64::from(*ticks)).sum();
+        let mut row = [0; ENTRIES];
+        row[..5].copy_from_slice(&rest);
+        state.put_job(0, 0, 4, &row);
+        state.tasks[0].wait = 4;
         fits(&table, &state)
     };
     assert!(with([0, 1, 3, 0, 2]) && with([0, 0, 1, 0, 2]) && with([0, 1, 0, 0, 2]));
@@ -217,7 +212,7 @@ fn the_journal_reads_these_rules() {
     let ruled = |rows: &[&[u8]]| {
         let mut journal = Vec::new();
         for (at, row) in rows.iter().enumerate() {
-            let ran: Vec<Vertex> = row.iter().map(|h| (0, *h)).collect();
+            let ran: Vec<Vertex> = row.iter().map(|h| (0, 0, *h)).collect();
             put_row(&mut journal, u16::from(at == 0), &ran);
         }
         let ruling = judge(&bytes, &journal);
@@ -264,8 +259,10 @@ fn such_states_come_up() {
         let state = fitting(r, &table);
         assert!(fits(&table, &state));
         for i in 0..usize::from(table.n) {
-            let (task, rest) = (&table.tasks[i], sixteen(&state.remaining, i));
-            waiting += u32::from(held_back(task, rest) != held_by_remaining(task, rest));
+            for (age, _) in state.tasks[i].jobs() {
+                let (task, rest) = (&table.tasks[i], state.rest(i, age));
+                waiting += u32::from(held_back(task, rest) != held_by_remaining(task, rest));
+            }
             nothing += u32::from(table.costs_of(i).iter().all(|cost| *cost == 0));
         }
     }

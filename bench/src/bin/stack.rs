@@ -64,7 +64,8 @@ fn taken<T>(entry: *const (), words: [usize; 6], put: T) -> usize {
 /// Bytes of stack: ours, and plain C's.
 type Both = [usize; 2];
 
-/// Room for an answer, which goes to memory that the caller names first, as every struct above sixteen bytes.
+/// Room for an answer, which goes to memory that the caller names first, as every struct above sixteen bytes. (Writing's answer has
+/// sixteen, and goes in registers.)
 fn room<T>() -> (Box<std::mem::MaybeUninit<T>>, usize) {
     let mut answer = Box::new(std::mem::MaybeUninit::<T>::uninit());
     let to = answer.as_mut_ptr() as usize;
@@ -150,10 +151,10 @@ fn sharp_report(r: &mut Random, k: u64) -> Both {
 
 /// Both sides' function for a report.
 fn report_of(bytes: &[u8], sides: [*const (); 2]) -> Both {
-    let mut buffer = [0u8; face::REPORT_MOST];
+    let mut buffer = [0u8; face::MAX_REPORT];
     let to = buffer.as_mut_ptr() as usize;
     let from = bytes.as_ptr() as usize;
-    let words = [from, bytes.len(), to, face::REPORT_MOST, 0, 0];
+    let words = [from, bytes.len(), to, face::MAX_REPORT, 0, 0];
     sides.map(|entry| taken(entry, words, ()))
 }
 
@@ -186,24 +187,38 @@ fn open(r: &mut Random, k: u64) -> Both {
     ]
 }
 
-/// Every task of the largest file is released for the first input.
-fn tick(r: &mut Random, k: u64) -> Both {
+/// What both ticks are measured on: every task of the largest file is released for the first input.
+fn tick_input(r: &mut Random, k: u64) -> ticking::Input {
     let mut input = ticking::input(r);
     if k == 0 {
         input.bytes = file(&largest_table(r));
         input.state = second::flat::open(&input.bytes, 0).state;
         input.releases = u16::MAX;
     }
+    input
+}
+
+/// Plain C has a tick in place only.
+fn tick(r: &mut Random, k: u64) -> Both {
+    let input = tick_input(r, k);
+    let (from, count) = (input.bytes.as_ptr() as usize, input.bytes.len());
+    let (_answer, to) = room::<face::Ticked>();
+    let words = [to, from, count, usize::from(input.releases), 0, 0];
+    let entry = face::entry::mt_tick as *const ();
+    [taken(entry, words, input.state), 0]
+}
+
+fn tick_in_place(r: &mut Random, k: u64) -> Both {
+    let input = tick_input(r, k);
     let (from, count) = (input.bytes.as_ptr() as usize, input.bytes.len());
     let releases = usize::from(input.releases);
     let (_answer, to) = room::<face::TickAnswer>();
-    let state = face::State::from(&input.state);
-    let mut kept = state;
-    let at = std::ptr::from_mut(&mut kept) as usize;
-    let ours = [to, from, count, releases, 0, 0];
-    let theirs = [to, from, count, at, releases, 0];
+    let mut states = [input.state; 2];
+    let [one, other] = states.each_mut().map(|s| std::ptr::from_mut(s) as usize);
+    let ours = [to, one, from, count, releases, 0];
+    let theirs = [to, from, count, other, releases, 0];
     [
-        taken(face::entry::mt_tick as *const (), ours, state),
+        taken(face::entry::mt_tick_in_place as *const (), ours, ()),
         taken(plain::entry::plain_tick as *const (), theirs, ()),
     ]
 }
@@ -228,12 +243,12 @@ fn line(name: &str, one: fn(&mut Random, u64) -> Both, beside: &str) {
         0 => String::from("-"),
         bytes => bytes.to_string(),
     };
-    println!("{name:<16}{ours:>8}{theirs:>10}{beside}");
+    println!("{name:<18}{ours:>8}{theirs:>10}{beside}");
 }
 
 fn main() {
     println!("the stack of a function in bytes: run on one painted with a pattern, the most that changed over {INPUTS} inputs");
-    println!("{:<16}{:>8}{:>10}", "", "ours", "plain C");
+    println!("{:<18}{:>8}{:>10}", "", "ours", "plain C");
     let put = |size: usize, what: &str| {
         format!("   and {size} for the {what}, which its caller puts there")
     };
@@ -246,5 +261,6 @@ fn main() {
     line("mt_sharp_report", sharp_report, "");
     line("mt_open", open, "");
     line("mt_tick", tick, &put(size_of::<face::State>(), "state"));
+    line("mt_tick_in_place", tick_in_place, "");
     line("mt_judge", judge, "");
 }

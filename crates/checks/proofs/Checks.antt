@@ -85,7 +85,7 @@ module _ {X : Type 0} (out : X → Outcome) (next : X → ℕ) (stop : Outcome �
       order false = both-stop (Order at) end (order-bad at)
 
       go : (b : Bool) → Agree (onward (notUnder d at (pick b (Got x) (Stop (Ticks at)))) stop g) (onward (notUnder d at (pick b (Got x) (Stop (Ticks at)))) stopped h) end
-      go true = order (leb d x)
+      go true = order (leb d (4 * x))
       go false = both-stop (Ticks at) end (ticks-bad at)
 
   agree-when : (o : Outcome) (end : ℕ) (g : Unit {0} → X) (h : Unit {0} → Checked) → (o ≡ Read → Agree (g tt) (h tt) end)

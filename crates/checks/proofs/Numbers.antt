@@ -46,7 +46,7 @@ unfolding ranged notUnder stopped OwnNumber
 period-own d at x g k = go (leb 1 x && leb x 1000000)
   where
     go : (b : Bool) → OwnNumber (onward (notUnder d at (pick b (Got x) (Stop (Ticks at)))) stopped g .outcome)
-    go true = pick-own (leb d x) x (Order at) tt g k
+    go true = pick-own (leb d (4 * x)) x (Order at) tt g k
     go false = tt
 
 when-own : (o : Outcome) → OwnNumber o → (g : Unit {0} → Checked) → OwnNumber (g tt .outcome) → OwnNumber (whenRead o stopped g .outcome)

@@ -79,13 +79,13 @@ module _ (a : Task) (costs : List ℕ) (slot at : ℕ) where
         t-over h = rw (heads, within Ticks 1 1000000 (at + 4) (a .d) d₁ d₂, over Ticks 1 1000000 (at + 8) (a .t) h)
 
         module _ (t₁ : 1 ≤ a .t) (t₂ : a .t ≤ 1000000) where
-          pub t-early : a .t < a .d → stopped (Order (at + 8)) ≡ taskTested a costs slot at
+          pub t-early : 4 * a .t < a .d → stopped (Order (at + 8)) ≡ taskTested a costs slot at
           unfolding notUnder
-          t-early h = rw (heads, within Ticks 1 1000000 (at + 4) (a .d) d₁ d₂, within Ticks 1 1000000 (at + 8) (a .t) t₁ t₂, lt-leb (a .d) (a .t) h)
+          t-early h = rw (heads, within Ticks 1 1000000 (at + 4) (a .d) d₁ d₂, within Ticks 1 1000000 (at + 8) (a .t) t₁ t₂, lt-leb (a .d) (4 * a .t) h)
 
-          pub then-parts : a .d ≤ a .t → partsTested (a .succ) costs slot at (a .v) ≡ taskTested a costs slot at
+          pub then-parts : a .d ≤ 4 * a .t → partsTested (a .succ) costs slot at (a .v) ≡ taskTested a costs slot at
           unfolding notUnder
-          then-parts h = rw (heads, within Ticks 1 1000000 (at + 4) (a .d) d₁ d₂, within Ticks 1 1000000 (at + 8) (a .t) t₁ t₂, le-leb (a .d) (a .t) h)
+          then-parts h = rw (heads, within Ticks 1 1000000 (at + 4) (a .d) d₁ d₂, within Ticks 1 1000000 (at + 8) (a .t) t₁ t₂, le-leb (a .d) (4 * a .t) h)
 
 -- ---- where a task ends
 next-ranged : (outside : ℕ → Outcome) (lo hi at x end : ℕ) (g : ℕ → Checked) → (x ≤ hi → g x .next ≤ end) → onward (ranged outside lo hi at x) stopped g .next ≤ end
@@ -106,7 +106,7 @@ next-period d at x end g k = go (leb 1 x && leb x 1000000)
     order false = omega arith
 
     go : (b : Bool) → onward (notUnder d at (pick b (Got x) (Stop (Ticks at)))) stopped g .next ≤ end
-    go true = order (leb d x)
+    go true = order (leb d (4 * x))
     go false = omega arith
 
 next-when : (o : Outcome) (end : ℕ) (g : Unit {0} → Checked) → g tt .next ≤ end → whenRead o stopped g .next ≤ end

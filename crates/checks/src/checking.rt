@@ -206,7 +206,8 @@ fn check_task(task: Task, costs: &[u32; 256], slot: usize, at: usize) -> Checked
     if 1_000_000 < t {
         return stop(Outcome::Ticks(at_t));
     }
-    if t < d {
+    // T is in its range by now, so this does not wrap
+    if 4 * t < d {
         return stop(Outcome::Order(at_t));
     }
     check_parts(succ, costs, slot, v, at)

@@ -1,4 +1,6 @@
--- P1 to P12 and the report of A, computed.
+-- P1 to P12 and the report of A, computed by bare ticks.
+use mathlib.Core.Path.{_≡_, refl}
+use mathlib.Core.Bool.{true}
 use Rattle.graph.specs.Words.{flag, bit, sum, all, rowFrom, row, largest, alsoIf, those, thoseBelow, lowest, isIn, anyOf, isNone, setOf, joinFrom, inOrder, firstOr, lowestOr}
 use Rattle.graph.specs.Graph.{edge, ledTo, sweep, sweeps, acyclicAmong, acyclic, doneWithin, done, oneMore, longestFrom, maximum, longest}
 use Rattle.chains.specs.Chains.{firstWith, listedAfter, listedFrom, firstChain}
@@ -10,12 +12,15 @@ use Rattle.table.specs.Writing.{bytes4}
 use Rattle.verdict.specs.Verdicts.{vol, len, roundedUp, due, margin, chain, inPlaces, listed, naming, verdictOn, unread, verdictRead, verdict, figuresOn}
 use Rattle.text.specs.Text.{text, newline, digitsBefore, decimal, signed}
 use Rattle.reports.specs.Report.{headLine, taskLine, vertexAt, lastLine, badLine, reportOn, reportRead, report}
-use Rattle.machine.specs.States.{idle, activity, isLive, waitOf, deadlineOf, live, wait, deadline, remaining, workOf, wrap, ticksLeft, left, zeros, unopened, openRead, opening}
-use Rattle.machine.specs.Fitting.{clear, nothingLeft, workAgrees, zeroTaskIn, withinCost, wholeBehind, fitsLive, fitsIdle, fitsTask, fitsPhase, fits}
-use Rattle.machine.specs.Steps.{released, available, availables, before, insert, ranked, ownChoice, withWait, runOf, worked, finishes, ended, finished, missed}
-use Rattle.machine.specs.Ticking.{nobody, pairOf, runList, ticked, judged, advanceTo, advance, refuse, whenRunning, tickOn, tickRead, tickBy, tick}
-use Rattle.examples.specs.Examples.{fileA, plainTask, fileOne, fileLow, same, sameZ, flat, eight, sameRun, answered, plays, judges, holds, hold, on, goes, linesA, startA, examples, AllHold}
+use Rattle.machine.specs.States.{noJob, idle, taskOf, wait, jobAt, isLive, deadlineOf, live, deadline, jobsOf, remaining, workOf, wrap, ticksLeft, left, zeros}
+use Rattle.machine.specs.Steps.{taskIn, ageIn, vertexIn, nameAt, isNew, released, clear, available, availables, leftIn, before, insert, ranked, ownChoice, runOf, worked, finishes, goingOn, closed, ended, anyPlace, finished, missed}
+use Rattle.machine.specs.Ticking.{nobody, tripleOf, runList, ticked, judged, advanceTo, refuse, whenRunning}
+use Rattle.examples.specs.Examples.{fileA, plainTask, fileOne, fileLow, same, sameZ, flat, eight, sameRun, answered, judges, holds, on, goes, linesA, startA, examples, AllHold}
+use Rattle.examples.proofs.Going.{bareSteps, bareTick, isRead, barePlays, bareOpens, bareDue, bareHolds, bareHold, bare-hold}
+
+computed : bareHold examples ≡ true
+unfolding flag bit sum all rowFrom row largest alsoIf those thoseBelow lowest isIn anyOf isNone setOf joinFrom inOrder firstOr lowestOr edge ledTo sweep sweeps acyclicAmong acyclic doneWithin done oneMore longestFrom maximum longest noSucc noCosts zeroTask noTasks noRow noTable noTask task vertices D succ edgeIn cost Memory.T number place field markAt ranged byteAt value4 ticksAt notUnder periodAt edgeOk edgeAt costsAt addEdge edgesAt badTask partsAt taskAt putCosts badTable withTask tasksAt tableAt refused ending read bytes4 vol len roundedUp due margin chain inPlaces listed naming verdictOn unread verdictRead verdict figuresOn firstWith listedAfter listedFrom firstChain text newline digitsBefore decimal signed headLine taskLine vertexAt lastLine badLine reportOn reportRead report noJob idle taskOf wait jobAt isLive deadlineOf live deadline jobsOf remaining workOf wrap ticksLeft left zeros taskIn ageIn vertexIn nameAt isNew released clear available availables leftIn before insert ranked ownChoice runOf worked finishes goingOn closed ended anyPlace finished missed nobody tripleOf runList ticked judged advanceTo refuse whenRunning fileA plainTask fileOne fileLow same sameZ flat eight sameRun answered judges holds on goes linesA startA examples bareSteps bareTick isRead barePlays bareOpens bareDue bareHolds bareHold
+computed = refl
 
 pub all-hold : AllHold
-unfolding flag bit sum all rowFrom row largest alsoIf those thoseBelow lowest isIn anyOf isNone setOf joinFrom inOrder firstOr lowestOr edge ledTo sweep sweeps acyclicAmong acyclic doneWithin done oneMore longestFrom maximum longest noSucc noCosts zeroTask noTasks noRow noTable noTask task vertices D Memory.T succ edgeIn cost number place field markAt ranged byteAt value4 ticksAt notUnder periodAt edgeOk edgeAt costsAt addEdge edgesAt badTask partsAt taskAt putCosts badTable withTask tasksAt tableAt refused ending read bytes4 vol len roundedUp due margin firstWith listedAfter listedFrom firstChain chain inPlaces listed naming verdictOn unread verdictRead verdict figuresOn text newline digitsBefore decimal signed headLine taskLine vertexAt lastLine badLine reportOn reportRead report idle activity isLive waitOf deadlineOf live wait deadline remaining workOf wrap ticksLeft left zeros unopened openRead opening clear nothingLeft workAgrees zeroTaskIn withinCost wholeBehind fitsLive fitsIdle fitsTask fitsPhase fits released available availables before insert ranked ownChoice withWait runOf worked finishes ended finished missed nobody pairOf runList ticked judged advanceTo advance refuse whenRunning tickOn tickRead tickBy tick fileA plainTask fileOne fileLow same sameZ flat eight sameRun answered plays judges holds hold on goes linesA startA examples
-all-hold = tt
+all-hold = bare-hold examples computed

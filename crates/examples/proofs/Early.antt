@@ -7,26 +7,25 @@ use native.Mathlib.Omega.{arith}
 use native.Mathlib.Decide.{decLt}
 use lib.ListN.{length, getD, take}
 use lib.Dec.{T, ltb, ltb→lt}
-use Rattle.graph.specs.Words.{bit, sum, all, rowFrom, row, largest, alsoIf, those, thoseBelow, lowest, isIn, anyOf, isNone, setOf, joinFrom, inOrder, firstOr, lowestOr}
+use Rattle.graph.specs.Words.{flag, bit, sum, all, rowFrom, row, largest, alsoIf, those, thoseBelow, lowest, isIn, anyOf, isNone, setOf, joinFrom, inOrder, firstOr, lowestOr}
 use Rattle.graph.specs.Graph.{edge, ledTo, sweep, sweeps, acyclicAmong, acyclic, doneWithin, done, oneMore, longestFrom, maximum, longest}
+use Rattle.graph.proofs.Facts.{past-end, all-at}
+use Rattle.chains.specs.Chains.{firstWith, listedAfter, listedFrom, firstChain}
 use Rattle.table.specs.Memory.{noSucc, noCosts, zeroTask, noTasks, noRow, noTable, noTask, task, vertices, D, succ, edgeIn, cost}
 use Rattle.table.specs.Memory
 use Rattle.table.specs.Numbers.{number, place}
 use Rattle.table.specs.Reading.{field, markAt, ranged, byteAt, value4, ticksAt, notUnder, periodAt, edgeOk, edgeAt, costsAt, addEdge, edgesAt, badTask, partsAt, taskAt, putCosts, badTable, withTask, tasksAt, tableAt, refused, ending, read}
 use Rattle.table.specs.Writing.{bytes4}
-use Rattle.verdict.specs.Verdicts.{vol, len, roundedUp, due, margin, naming, verdictOn, unread, verdictRead, verdict}
-use Rattle.machine.specs.States.{idle, activity, isLive, waitOf, deadlineOf, live, wait, deadline, remaining, workOf, wrap, ticksLeft, left, zeros, unopened, openRead, opening}
-use Rattle.machine.specs.Fitting.{clear, nothingLeft, workAgrees, zeroTaskIn, withinCost, wholeBehind, fitsLive, fitsIdle, fitsTask, fitsPhase, fits}
-use Rattle.machine.specs.Steps.{released, available, availables, before, insert, ranked, ownChoice, withWait, runOf, worked, finishes, ended, finished, missed}
-use Rattle.machine.specs.Ticking.{nobody, pairOf, runList, ticked, judged, advanceTo, advance, refuse, whenRunning, tickOn, tickRead, tickBy, tick}
-use Rattle.graph.specs.Words.{flag}
-use Rattle.graph.proofs.Facts.{past-end, all-at}
-use Rattle.examples.specs.Examples.{fileA}
+use Rattle.verdict.specs.Verdicts.{vol, len, roundedUp, due, margin, chain, inPlaces, listed, naming, verdictOn, unread, verdictRead, verdict}
+use Rattle.machine.specs.States.{noJob, idle, taskOf, wait, jobAt, isLive, deadlineOf, live, deadline, jobsOf, remaining, workOf, wrap, ticksLeft, left, zeros, unopened, openRead, opening}
+use Rattle.machine.specs.Steps.{taskIn, ageIn, vertexIn, nameAt, isNew, released, clear, available, availables, leftIn, before, insert, ranked, ownChoice, runOf, worked, finishes, goingOn, closed, ended, anyPlace, finished, missed}
+use Rattle.machine.specs.Ticking.{nobody, tripleOf, runList, ticked, judged, advanceTo, refuse, whenRunning}
 use Rattle.promise.specs.Runs.{tableOf, Sporadic, taking, early, Drawn, tickAt, stateAt, midAt, answerAt, LegalBefore}
+use Rattle.promise.proofs.Holds.{demand3-old-early}
+use Rattle.promise.proofs.Tests.{every, distinct, legalAmong, legalTest, walk, namesTasks, apartAt, spacedTest, drawnTest, is-drawn, all-legal, is-sporadic}
+use Rattle.examples.specs.Examples.{fileA}
 use Rattle.examples.specs.Witness.{someClock}
 use Rattle.examples.specs.Early.{timesA, atLeast, earlyRound, earlyDraws, earlyPicks, earlyReleases, earlyTimes, earlyChoices, earlyPlan, EarlyWitness}
-use Rattle.promise.proofs.Holds.{demand3-old-early}
-use Rattle.examples.proofs.Tests.{every, distinct, legalAmong, legalTest, drawnTest, is-drawn, walk, all-legal, namesTasks, apartAt, spacedTest, is-sporadic}
 
 -- all that is computed of the run: each choice is legal, releases are spaced, times are drawn within the costs, the verdict, and what the run shows
 record Computed : Type 0 where
@@ -43,7 +42,7 @@ record Computed : Type 0 where
   ends : bit (answerAt early fileA someClock earlyPlan 9 .finished) 0 ≡ true
 
 computed : Computed
-unfolding bit sum all rowFrom row largest alsoIf those thoseBelow lowest isIn anyOf isNone setOf joinFrom inOrder firstOr lowestOr edge ledTo sweep sweeps acyclicAmong acyclic doneWithin done oneMore longestFrom maximum longest noSucc noCosts zeroTask noTasks noRow noTable noTask task vertices D Memory.T succ edgeIn cost number place field markAt ranged byteAt value4 ticksAt notUnder periodAt edgeOk edgeAt costsAt addEdge edgesAt badTask partsAt taskAt putCosts badTable withTask tasksAt tableAt refused ending read bytes4 vol len roundedUp due margin naming verdictOn unread verdictRead verdict idle activity isLive waitOf deadlineOf live wait deadline remaining workOf wrap ticksLeft left zeros unopened openRead opening clear nothingLeft workAgrees zeroTaskIn withinCost wholeBehind fitsLive fitsIdle fitsTask fitsPhase fits released available availables before insert ranked ownChoice withWait runOf worked finishes ended finished missed nobody pairOf runList ticked judged advanceTo advance refuse whenRunning tickOn tickRead tickBy tick fileA flag tableOf taking tickAt stateAt midAt answerAt someClock timesA atLeast earlyRound earlyDraws earlyPicks earlyReleases earlyTimes earlyChoices earlyPlan every distinct legalAmong legalTest drawnTest walk namesTasks apartAt spacedTest
+unfolding flag bit sum all rowFrom row largest alsoIf those thoseBelow lowest isIn anyOf isNone setOf joinFrom inOrder firstOr lowestOr edge ledTo sweep sweeps acyclicAmong acyclic doneWithin done oneMore longestFrom maximum longest noSucc noCosts zeroTask noTasks noRow noTable noTask task vertices D succ edgeIn cost Memory.T number place field markAt ranged byteAt value4 ticksAt notUnder periodAt edgeOk edgeAt costsAt addEdge edgesAt badTask partsAt taskAt putCosts badTable withTask tasksAt tableAt refused ending read bytes4 vol len roundedUp due margin chain inPlaces listed naming verdictOn unread verdictRead verdict firstWith listedAfter listedFrom firstChain noJob idle taskOf wait jobAt isLive deadlineOf live deadline jobsOf remaining workOf wrap ticksLeft left zeros unopened openRead opening taskIn ageIn vertexIn nameAt isNew released clear available availables leftIn before insert ranked ownChoice runOf worked finishes goingOn closed ended anyPlace finished missed nobody tripleOf runList ticked judged advanceTo refuse whenRunning fileA tableOf taking tickAt stateAt midAt answerAt someClock timesA atLeast earlyRound earlyDraws earlyPicks earlyReleases earlyTimes earlyChoices earlyPlan every distinct legalAmong legalTest walk namesTasks apartAt spacedTest drawnTest
 computed = record {
   walks = refl;
   spaced = refl;

@@ -12,18 +12,18 @@ use Rattle.table.specs.Writing.{bytes4}
 use Rattle.verdict.specs.Verdicts.{vol, len, roundedUp, due, margin, chain, inPlaces, naming, verdictOn, unread, verdictRead, verdict}
 use Rattle.verdict.proofs.Margins.{lowEnd, highEnd}
 
--- a task with D and T the same, some vertices of one cost, and some edges 0-1, 1-2, ..
-unfoldable pub chained : ℕ → ℕ → ℕ → ℕ → List ℕ
-chained vertices edges time each =
-    0x54 ∷ 0x4B ∷ vertices ∷ edges ∷ (bytes4 time ++ bytes4 time ++ inOrder vertices (λ u. bytes4 each) ++ inOrder edges (λ u. u ∷ suc u ∷ []))
+-- a task with its D and T, some vertices of one cost, and some edges 0-1, 1-2, ..
+unfoldable pub chained : ℕ → ℕ → ℕ → ℕ → ℕ → List ℕ
+chained vertices edges deadline period each =
+    0x54 ∷ 0x4B ∷ vertices ∷ edges ∷ (bytes4 deadline ++ bytes4 period ++ inOrder vertices (λ u. bytes4 each) ++ inOrder edges (λ u. u ∷ suc u ∷ []))
 
--- m 8; task 0 a chain of sixteen with D = T = 1,000,000, fifteen with D = T = 1; each cost 1,000,000
+-- m 8; task 0 a chain of sixteen with D = 1,000,000 and T a quarter of it, fifteen with D = T = 1; each cost 1,000,000
 unfoldable pub lowFile : List ℕ
-lowFile = 0x54 ∷ 0x42 ∷ 8 ∷ 16 ∷ (chained 16 15 1000000 1000000 ++ inOrder 15 (λ i. chained 16 0 1 1000000))
+lowFile = 0x54 ∷ 0x42 ∷ 8 ∷ 16 ∷ (chained 16 15 1000000 250000 1000000 ++ inOrder 15 (λ i. chained 16 0 1 1 1000000))
 
 -- m 8, one vertex of cost 0, D = T = 1,000,000
 unfoldable pub highFile : List ℕ
-highFile = 0x54 ∷ 0x42 ∷ 8 ∷ 1 ∷ chained 1 0 1000000 0
+highFile = 0x54 ∷ 0x42 ∷ 8 ∷ 1 ∷ chained 1 0 1000000 1000000 0
 
 -- with the longest chain that there is, all sixteen vertices, and the shortest
 pub ends-reached : (verdict lowFile ≡ record { number = 20; place = 0; task = 0; margin = lowEnd; count = 16; chain = row 16 (λ i. i) })

@@ -34,8 +34,8 @@ earlyDraws =
 -- what each tick chooses; at the eighth task 0's vertex 2 passes vertex 1, which has as many ticks left
 unfoldable pub earlyPicks : List (List ℕ)
 earlyPicks =
-    (17 ∷ 16 ∷ []) ∷ (16 ∷ []) ∷ [] ∷ [] ∷ [] ∷ (0 ∷ [])
-    ∷ (17 ∷ 16 ∷ []) ∷ (17 ∷ 2 ∷ []) ∷ (1 ∷ []) ∷ (1 ∷ []) ∷ [] ∷ [] ∷ []
+    (65 ∷ 64 ∷ []) ∷ (64 ∷ []) ∷ [] ∷ [] ∷ [] ∷ (0 ∷ [])
+    ∷ (65 ∷ 64 ∷ []) ∷ (65 ∷ 2 ∷ []) ∷ (1 ∷ []) ∷ (1 ∷ []) ∷ [] ∷ [] ∷ []
 
 -- twice that, and the first two ticks of a third time; from tick 26 on nothing is released
 unfoldable pub earlyReleases : ℕ → ℕ

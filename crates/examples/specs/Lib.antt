@@ -2,6 +2,8 @@
 pub mod Examples
 -- FORK AND JOIN MARKS (document 02, M-103), played and judged: stated.
 pub mod Marks
+-- SEVERAL LIVE JOBS (document 02, M-109): stated.
+pub mod Several
 -- A SIMULATION THAT GOES WELL, and a later release that misses: stated.
 pub mod Later
 -- THE SHARP VERDICT (document 02, M-107): what it says that the old one does not: stated.

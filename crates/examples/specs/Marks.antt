@@ -30,12 +30,12 @@ played =
 
 unfoldable pub journals : List J.Example
 journals =
-    J.accepts fileMarks (J.line 1 2 (0 ∷ 1 ∷ 0 ∷ 2 ∷ []) ++ J.line 0 1 (0 ∷ 2 ∷ []) ++ J.line 0 1 (0 ∷ 4 ∷ []) ++ J.line 0 0 []) 4 false
+    J.accepts fileMarks (J.line 1 2 (0 ∷ 0 ∷ 1 ∷ 0 ∷ 0 ∷ 2 ∷ []) ++ J.line 0 1 (0 ∷ 0 ∷ 2 ∷ []) ++ J.line 0 1 (0 ∷ 0 ∷ 4 ∷ []) ++ J.line 0 0 []) 4 false
     -- a branch before the join still runs
-    ∷ J.refuses fileMarks (J.line 1 3 (0 ∷ 1 ∷ 0 ∷ 2 ∷ 0 ∷ 4 ∷ [])) 44 0
-    ∷ J.refuses fileMarks (J.line 1 2 (0 ∷ 1 ∷ 0 ∷ 2 ∷ []) ++ J.line 0 2 (0 ∷ 2 ∷ 0 ∷ 4 ∷ [])) 44 1
+    ∷ J.refuses fileMarks (J.line 1 3 (0 ∷ 0 ∷ 1 ∷ 0 ∷ 0 ∷ 2 ∷ 0 ∷ 0 ∷ 4 ∷ [])) 44 0
+    ∷ J.refuses fileMarks (J.line 1 2 (0 ∷ 0 ∷ 1 ∷ 0 ∷ 0 ∷ 2 ∷ []) ++ J.line 0 2 (0 ∷ 0 ∷ 2 ∷ 0 ∷ 0 ∷ 4 ∷ [])) 44 1
     -- a mark does not run
-    ∷ J.refuses fileMarks (J.line 1 1 (0 ∷ 0 ∷ [])) 44 0
+    ∷ J.refuses fileMarks (J.line 1 1 (0 ∷ 0 ∷ 0 ∷ [])) 44 0
     ∷ []
 
 -- THE STATEMENT: they all hold, and the task of two marks is named as finished in its release tick

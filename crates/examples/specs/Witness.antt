@@ -21,11 +21,12 @@ someClock = 4294967290
 unfoldable pub roundReleases : List ℕ
 roundReleases = 3 ∷ 0 ∷ 0 ∷ 0 ∷ 0 ∷ 0 ∷ 2 ∷ 0 ∷ 0 ∷ 0 ∷ 0 ∷ 0 ∷ 0 ∷ []
 
--- what each tick chooses, of equal ticks left the higher vertex first; at the seventh task 1's vertex 1, 17, passes vertex 0, 16
+-- what each tick chooses, a vertex as 64 times task plus vertex (each job is its task's oldest); of equal ticks left the higher vertex first. At the
+-- seventh task 1's vertex 1, 65, passes vertex 0, 64
 unfoldable pub roundChoices : List (List ℕ)
 roundChoices =
-    (17 ∷ 16 ∷ []) ∷ (17 ∷ 16 ∷ []) ∷ (0 ∷ []) ∷ (0 ∷ []) ∷ (2 ∷ 1 ∷ []) ∷ (1 ∷ [])
-    ∷ (1 ∷ 17 ∷ []) ∷ (17 ∷ 16 ∷ []) ∷ (16 ∷ []) ∷ [] ∷ [] ∷ [] ∷ [] ∷ []
+    (65 ∷ 64 ∷ []) ∷ (65 ∷ 64 ∷ []) ∷ (0 ∷ []) ∷ (0 ∷ []) ∷ (2 ∷ 1 ∷ []) ∷ (1 ∷ [])
+    ∷ (1 ∷ 65 ∷ []) ∷ (65 ∷ 64 ∷ []) ∷ (64 ∷ []) ∷ [] ∷ [] ∷ [] ∷ [] ∷ []
 
 -- twice that, and the first four ticks of a third time; from tick 30 on nothing is released
 unfoldable pub someReleases : ℕ → ℕ
@@ -58,5 +59,5 @@ pub record Witness : Type 0 where
   pub often : (i : ℕ) → i < tableOf fileA .n → 3 ≤ sum 30 (λ x. flag (bit (someReleases x) i))
   -- in tick 0 vertex 0 of task 0, which is available, is passed over
   pub passed-over : (isIn 0 (availableAt 0) ≡ true) × (isIn 0 (someChoices 0) ≡ false)
-  -- in tick 6 the machine would choose task 1's vertex 0, 16; the run chooses another with as many ticks left
-  pub otherwise : (isIn 16 (ownAt 6) ≡ true) × (isIn 16 (someChoices 6) ≡ false)
+  -- in tick 6 the machine would choose task 1's vertex 0, 64; the run chooses another with as many ticks left
+  pub otherwise : (isIn 64 (ownAt 6) ≡ true) × (isIn 64 (someChoices 6) ≡ false)

@@ -146,7 +146,7 @@ module _ (file : List ℕ) (well : read file .outcome ≡ Read) where
       its-bytes : rowBytes (rowSet s next) (keysOf (listed s next)) ++ drop (rowEnd s next) s ≡ drop next s
       its-bytes =
           ap (λ (k : List ℕ). rowBytes (rowSet s next) k ++ drop (rowEnd s next) s) (listed-keys t st s next p)
-          ∙ sym (row-bytes s next bytes (in-whole t st s next p) (the-mark t st s next p .0) (the-mark t st s next p .1) (λ j h. each t st s next p j h .1))
+          ∙ sym (row-bytes s next bytes (in-whole t st s next p) (the-mark t st s next p .0) (the-mark t st s next p .1) (λ j h. (each t st s next p j h .1, each t st s next p j h .2)))
 
     pub judged-run : (k next rows : ℕ) (st : State) → Fit st → next ≤ length s → length s ≤ k + next
         → judgeRows t s (length s) (at next rows st) .number ≡ 0

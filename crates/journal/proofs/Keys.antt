@@ -1,4 +1,4 @@
--- Lists of vertices: those of a row ascend, and are what a test picks out of the numbers below 256.
+-- Lists of vertices: those of a row ascend, and are what a test picks out of the numbers below 1024.
 use mathlib.Core.Path.{_≡_, refl, sym, ap, _∙_}
 use mathlib.Core.Bool.{Bool, true, false}
 use mathlib.Core.List.{List, [], _∷_}
@@ -44,41 +44,33 @@ pub asc-row : (k top : ℕ) (f : ℕ → ℕ) → ((j : ℕ) → j < k → f j <
 unfolding row
 asc-row k top f h n = asc-from k 0 0 top f (λ p. omega arith) (λ j b. h j (omega arith)) (λ j a b. n j (omega arith))
 
--- and the other way: in an ascending list each is below the next
-pub asc-next : (low top : ℕ) (l : List ℕ) → Asc low top l → (j : ℕ) → suc j < length l → getD l j 0 < getD l (suc j) 0
-unfolding Asc
-asc-next low top [] h j b = absurd (omega arith)
-asc-next low top (x ∷ []) h j b = absurd (omega arith)
-asc-next low top (x ∷ y ∷ l) h zero b = let z = h .2 .0 in omega arith
-asc-next low top (x ∷ y ∷ l) h (suc j) b = asc-next (suc x) top (y ∷ l) (h .2) j (omega arith)
-
 -- ---- the vertices of a choice in ascending order
 module _ (chosen : List ℕ) where
-  pub keys-in : ((k : ℕ) → isIn k chosen ≡ true → k < 256) → (k : ℕ) → isIn k (keysOf chosen) ≡ isIn k chosen
+  pub keys-in : ((k : ℕ) → isIn k chosen ≡ true → k < 1024) → (k : ℕ) → isIn k (keysOf chosen) ≡ isIn k chosen
   unfolding keysOf
   keys-in small k = go (isIn k chosen) refl
     where
-      go : (b : Bool) → isIn k chosen ≡ b → isIn k (thoseBelow 256 (λ j. isIn j chosen)) ≡ b
-      go true e = below-all 256 (λ j. isIn j chosen) k (small k e) e
-      go false e = off-when _ (λ i. clash (below-pass 256 (λ j. isIn j chosen) k i .1) e)
+      go : (b : Bool) → isIn k chosen ≡ b → isIn k (thoseBelow 1024 (λ j. isIn j chosen)) ≡ b
+      go true e = below-all 1024 (λ j. isIn j chosen) k (small k e) e
+      go false e = off-when _ (λ i. clash (below-pass 1024 (λ j. isIn j chosen) k i .1) e)
 
-  pub keys-ascend : Asc 0 256 (keysOf chosen)
+  pub keys-ascend : Asc 0 1024 (keysOf chosen)
   unfolding keysOf thoseBelow row
-  keys-ascend = keys-asc (λ k. isIn k chosen) 256 0 256 refl
+  keys-ascend = keys-asc (λ k. isIn k chosen) 1024 0 1024 refl
 
   pub keys-distinct : Distinct (keysOf chosen)
   unfolding keysOf
-  keys-distinct = below-distinct 256 (λ k. isIn k chosen)
+  keys-distinct = below-distinct 1024 (λ k. isIn k chosen)
 
   -- an ascending list is its own
-  pub keys-same : Asc 0 256 chosen → keysOf chosen ≡ chosen
+  pub keys-same : Asc 0 1024 chosen → keysOf chosen ≡ chosen
   unfolding keysOf thoseBelow row
-  keys-same h = picked-out (λ k. isIn k chosen) 256 0 256 chosen refl h (λ k a b. refl)
+  keys-same h = picked-out (λ k. isIn k chosen) 1024 0 1024 chosen refl h (λ k a b. refl)
 
 -- only the members count
-pub keys-by-members : (a b : List ℕ) → ((k : ℕ) → k < 256 → isIn k a ≡ isIn k b) → keysOf a ≡ keysOf b
+pub keys-by-members : (a b : List ℕ) → ((k : ℕ) → k < 1024 → isIn k a ≡ isIn k b) → keysOf a ≡ keysOf b
 unfolding keysOf
-keys-by-members a b h = below-same 256 (λ k. isIn k a) (λ k. isIn k b) h
+keys-by-members a b h = below-same 1024 (λ k. isIn k a) (λ k. isIn k b) h
 
 -- ---- how many
 flags : (flag true ≡ 1) × (flag false ≡ 0)
@@ -106,9 +98,9 @@ length-sum n (y ∷ l) d b =
     omega arith
 
 -- has as many as its ascending list
-pub keys-length : (chosen : List ℕ) → Distinct chosen → ((k : ℕ) → isIn k chosen ≡ true → k < 256) → length (keysOf chosen) ≡ length chosen
+pub keys-length : (chosen : List ℕ) → Distinct chosen → ((k : ℕ) → isIn k chosen ≡ true → k < 1024) → length (keysOf chosen) ≡ length chosen
 unfolding keysOf
-keys-length chosen d b = count-below 256 (λ k. isIn k chosen) ∙ sym (length-sum 256 chosen d b)
+keys-length chosen d b = count-below 1024 (λ k. isIn k chosen) ∙ sym (length-sum 1024 chosen d b)
 
 -- and no more than the numbers that pass a test that all of it pass
 pub at-most : (n : ℕ) (p : ℕ → Bool) (l : List ℕ) → Distinct l → ((k : ℕ) → isIn k l ≡ true → (k < n) × (p k ≡ true)) → length l ≤ length (thoseBelow n p)

@@ -1,4 +1,4 @@
--- Judging row by row, for a loop.
+-- Judging row by row.
 pub mod Going
 -- Pieces of a journal.
 pub mod SameRow
@@ -23,6 +23,7 @@ pub mod Accepts
 pub mod Computed
 -- The tests of a row in code.
 pub mod RowTests
+pub mod Counted
 pub mod SetTests
 pub mod RowFaults
 pub mod Entries

@@ -8,7 +8,8 @@ use Rattle.graph.specs.Words.{isIn}
 use Rattle.table.specs.Reading.{read}
 use Rattle.machine.specs.declared.State.{State}
 use Rattle.machine.specs.Steps.{released}
-use Rattle.journal.specs.Runs.{Tick, tickWith, LegalRun, keysOf, pairBytes, rowBytes, writing, SameRun}
+use Rattle.machine.proofs.Index.{name-of}
+use Rattle.journal.specs.Runs.{Tick, tickWith, LegalRun, keysOf, tripleBytes, rowBytes, writing, SameRun}
 use Rattle.journal.proofs.Lawful.{same-members}
 
 tails : (x y : ℕ) (a b : List ℕ) → x ∷ a ≡ y ∷ b → a ≡ b
@@ -17,17 +18,21 @@ tails x y a b e = ap (drop 1) e
 heads : (x y : ℕ) (a b : List ℕ) → x ∷ a ≡ y ∷ b → x ≡ y
 heads x y a b e = ap (λ (l : List ℕ). getD l 0 0) e
 
--- pairs of the same number
-same-pairs : (ks ls a b : List ℕ) → length ks ≡ length ls → pairBytes ks ++ a ≡ pairBytes ls ++ b → (ks ≡ ls) × (a ≡ b)
-unfolding pairBytes
-same-pairs [] [] a b n e = (refl, e)
-same-pairs [] (l ∷ ls) a b n e = absurd (omega arith)
-same-pairs (k ∷ ks) [] a b n e = absurd (omega arith)
-same-pairs (k ∷ ks) (l ∷ ls) a b n e =
+-- triples of the same number
+same-triples : (ks ls a b : List ℕ) → length ks ≡ length ls → tripleBytes ks ++ a ≡ tripleBytes ls ++ b → (ks ≡ ls) × (a ≡ b)
+unfolding tripleBytes
+same-triples [] [] a b n e = (refl, e)
+same-triples [] (l ∷ ls) a b n e = absurd (omega arith)
+same-triples (k ∷ ks) [] a b n e = absurd (omega arith)
+same-triples (k ∷ ks) (l ∷ ls) a b n e =
     let p = heads _ _ _ _ e in
     let f = tails _ _ _ _ e in
     let q = heads _ _ _ _ f in
-    let r = same-pairs ks ls a b (omega arith) (tails _ _ _ _ f) in
+    let g = tails _ _ _ _ f in
+    let v = heads _ _ _ _ g in
+    let r = same-triples ks ls a b (omega arith) (tails _ _ _ _ g) in
+    let x = name-of k in
+    let y = name-of l in
     let h : k ≡ l = omega arith in
     (ap (λ (z : ℕ). z ∷ ks) h ∙ ap (_∷_ l) (r .0), r .1)
 
@@ -40,7 +45,7 @@ same-row m n ks ls a b e =
     let p = heads _ _ _ _ e₂ in
     let q = heads _ _ _ _ e₃ in
     let c = heads _ _ _ _ e₄ in
-    let r = same-pairs ks ls a b c (tails _ _ _ _ e₄) in
+    let r = same-triples ks ls a b c (tails _ _ _ _ e₄) in
     (omega arith, r .0, r .1)
 
 no-bytes : (n : ℕ) (ks w : List ℕ) → [] ≡ rowBytes n ks ++ w → ⊥

@@ -3,7 +3,7 @@ use mathlib.Core.Path.{_≡_, refl, sym, ap, subst, _∙_}
 use mathlib.Core.Logic.{_⊎_, inl, inr, ⊎-elim}
 use mathlib.Core.Bool.{true}
 use mathlib.Core.List.{List, [], _∷_}
-use Prim.Native.Nat.{ℕ, zero, suc, _+_, _*_, _/_, _%_, _^_, _≤_, _<_}
+use Prim.Native.Nat.{ℕ, zero, suc, _+_, _*_, _^_, _≤_, _<_}
 use native.Mathlib.Omega.{arith}
 use native.Mathlib.Decide.{decLt}
 use lib.ListN.{length, getD, drop, drop-of-length-le}
@@ -17,42 +17,44 @@ use Rattle.table.specs.Reading.{read}
 use Rattle.table.proofs.Sound.{read-good}
 use Rattle.machine.specs.declared.Phase.the-variants.{Stopped}
 use Rattle.machine.specs.declared.State.{State}
-use Rattle.machine.specs.declared.Pair.{Pair}
+use Rattle.machine.specs.declared.Triple.{Triple}
 use Rattle.machine.specs.declared.Ticked.{Ticked}
 use Rattle.machine.specs.States.{zeros}
-use Rattle.machine.specs.Steps.{released, worked, ended, finished, missed, ownChoice, Legal}
-use Rattle.machine.specs.Ticking.{nobody, pairOf, runList, ticked, judged, advanceTo, advance, tickOn, tick}
+use Rattle.machine.specs.Steps.{taskIn, released, worked, ended, finished, missed, ownChoice, Legal}
+use Rattle.machine.specs.Ticking.{nobody, tripleOf, runList, ticked, judged, advanceTo, advance, tickOn, tick}
+use Rattle.machine.proofs.Places.{at-in}
+use Rattle.machine.proofs.Index.{name-of}
 use Rattle.machine.proofs.Own.{own-legal}
 use Rattle.machine.proofs.Cases.{Admitted, admitted-advances}
 use Rattle.machine.proofs.Refusing.{on-table}
 use Rattle.journal.specs.Runs.{Tick, tickWith, answerOf, LegalTick, LegalRun, keyIf, ranKeys, ownRun, NoneRefused}
 use Rattle.journal.proofs.Ticks.{taken-admitted}
-use Rattle.journal.proofs.Lawful.{at-place, chosen-available}
+use Rattle.journal.proofs.Lawful.{chosen-available}
 
 -- ---- the run list names what was chosen
 -- the places from i on, of which k are left
-place : List ℕ → ℕ → Pair
-place chosen j = pick (ltb j (length chosen)) (pairOf (getD chosen j 0)) nobody
+place : List ℕ → ℕ → Triple
+place chosen j = pick (ltb j (length chosen)) (tripleOf (getD chosen j 0)) nobody
 
 no-keys : (k i : ℕ) (chosen : List ℕ) → length chosen ≤ i → ranKeys (rowFrom k i (place chosen)) ≡ []
 unfolding rowFrom ranKeys keyIf nobody place
 no-keys zero i chosen h = refl
 no-keys (suc k) i chosen h = rw (le-ltb i (length chosen) h) (no-keys k (suc i) chosen (omega arith))
 
-keys-from : (k i : ℕ) (chosen : List ℕ) → length chosen ≤ i + k → ((x : ℕ) → isIn x chosen ≡ true → x < 256) → ranKeys (rowFrom k i (place chosen)) ≡ drop i chosen
-unfolding rowFrom ranKeys keyIf pairOf place
+keys-from : (k i : ℕ) (chosen : List ℕ) → length chosen ≤ i + k → ((x : ℕ) → isIn x chosen ≡ true → x < 1024) → ranKeys (rowFrom k i (place chosen)) ≡ drop i chosen
+unfolding rowFrom ranKeys keyIf tripleOf place
 keys-from zero i chosen h b = sym (drop-of-length-le chosen {i = i} (omega arith))
 keys-from (suc k) i chosen h b = elim (decLt i (length chosen)) [
   | yes l ↦
       let x = getD chosen i 0 in
-      let s : x < 256 = b x (at-place chosen i l) in
-      let q : 16 * (x / 16) + x % 16 ≡ x = omega arith in
+      let s : x < 1024 = b x (at-in chosen i l) in
+      let q = name-of x in
       let r = keys-from k (suc i) chosen (omega arith) b in
-      rw (lt-ltb i (length chosen) l, ne-eqb (x / 16) 255 (λ z. omega arith), q, r) (sym (drop-cons chosen i 0 l))
+      rw (lt-ltb i (length chosen) l, ne-eqb (taskIn x) 255 (λ z. omega arith), q, r) (sym (drop-cons chosen i 0 l))
   | no l ↦ no-keys (suc k) i chosen (omega arith) ∙ sym (drop-of-length-le chosen {i = i} (omega arith))
 ]
 
-pub ran-is : (chosen : List ℕ) → length chosen ≤ 8 → ((x : ℕ) → isIn x chosen ≡ true → x < 256) → ranKeys (runList chosen) ≡ chosen
+pub ran-is : (chosen : List ℕ) → length chosen ≤ 8 → ((x : ℕ) → isIn x chosen ≡ true → x < 1024) → ranKeys (runList chosen) ≡ chosen
 unfolding runList row place
 ran-is chosen h b = keys-from 8 0 chosen h b
 

@@ -3,7 +3,7 @@ use mathlib.Core.Path.{_≡_, refl, sym, ap, subst, _∙_}
 use mathlib.Core.Logic.{⊎-elim}
 use mathlib.Core.Bool.{Bool, true, false, _&&_, _||_, not}
 use mathlib.Core.List.{List}
-use Prim.Native.Nat.{ℕ, _+_, _*_, _-_, _/_, _≤_, _<_, min}
+use Prim.Native.Nat.{ℕ, _+_, _*_, _-_, _≤_, _<_, min}
 use native.Mathlib.Omega.{arith}
 use lib.ListN.{length, getD}
 use lib.Dec.{ltb, leb, eqb}
@@ -14,19 +14,19 @@ use Rattle.graph.proofs.Lists.{any-some, some-any}
 use Rattle.table.specs.declared.Table.{Table}
 use Rattle.table.proofs.Ascending.{Asc}
 use Rattle.machine.specs.declared.State.{State}
-use Rattle.machine.specs.States.{wait, left}
-use Rattle.machine.specs.Steps.{released, available, availables, Legal}
-use Rattle.journal.specs.Rows.{rowSet, rowCount, rowTask, rowVertex, rowEnd, listed, isStopped, cutShort, wrongMark, rowPair, ascending, badList, pairAvailable, notAvailable, tooFew, passesOver, choiceFault, setFault, fault}
+use Rattle.machine.specs.States.{wait}
+use Rattle.machine.specs.Steps.{released, available, availables, leftIn, Legal}
+use Rattle.journal.specs.Rows.{rowSet, rowCount, rowTask, rowAge, rowVertex, rowKey, rowEnd, listed, isStopped, cutShort, wrongMark, rowTriple, ascending, badList, tripleAvailable, notAvailable, tooFew, passesOver, choiceFault, setFault, fault}
 use Rattle.journal.specs.Runs.{keysOf}
 use Rattle.journal.proofs.Keys.{in-row, asc-row, keys-same, keys-distinct, at-most}
 
 -- ---- 46
 -- an available vertex that is not chosen and has fewer ticks left than one chosen
 pub passes-over : (t : Table) (st : State) (chosen : List ℕ) (a b : ℕ) → isIn a (availables t st) ≡ true → isIn a chosen ≡ false
-    → isIn b chosen ≡ true → ltb (left st (a / 16)) (left st (b / 16)) ≡ true → passesOver t st chosen ≡ true
+    → isIn b chosen ≡ true → ltb (leftIn st a) (leftIn st b) ≡ true → passesOver t st chosen ≡ true
 unfolding passesOver
 passes-over t st chosen a b h n k e =
-    some-any (availables t st) _ a h (and-true _ _ (ap not n) (some-any chosen (λ b. ltb (left st (a / 16)) (left st (b / 16))) b k e))
+    some-any (availables t st) _ a h (and-true _ _ (ap not n) (some-any chosen (λ b. ltb (leftIn st a) (leftIn st b)) b k e))
 
 -- there is none where the choice is legal
 pub legal-over : (t : Table) (st : State) (chosen : List ℕ) → Legal t st chosen → passesOver t st chosen ≡ false
@@ -36,7 +36,7 @@ legal-over t st chosen l = off-when _ (λ e.
     let y = both-true (not (isIn (x .0) chosen)) _ (x .2) in
     let z = any-some chosen _ (y .1) in
     let f = l .first (x .0) (z .0) (x .1) (not-true _ (y .0)) (z .1) in
-    let g = ltb-true (left st (x .0 / 16)) (left st (z .0 / 16)) (z .2) in
+    let g = ltb-true (leftIn st (x .0)) (leftIn st (z .0)) (z .2) in
     omega arith)
 
 -- ALL TESTS of a row, in their order
@@ -113,44 +113,48 @@ module _ (t : Table) (st : State) (s : List ℕ) (at : ℕ) where
     unfolding badList
     ascends = not-false _ (or-false (ltb (t .m) (rowCount s at)) _ (p .list) .1)
 
-    ascends-at : (j : ℕ) → j + 1 < rowCount s at → rowPair s at j < rowPair s at (j + 1)
+    ascends-at : (j : ℕ) → j + 1 < rowCount s at → rowTriple s at j < rowTriple s at (j + 1)
     unfolding ascending
-    ascends-at j b = ltb-true (rowPair s at j) (rowPair s at (j + 1)) (all-at (rowCount s at - 1) (λ j. ltb (rowPair s at j) (rowPair s at (j + 1))) ascends j (omega arith))
+    ascends-at j b = ltb-true (rowTriple s at j) (rowTriple s at (j + 1)) (all-at (rowCount s at - 1) (λ j. ltb (rowTriple s at j) (rowTriple s at (j + 1))) ascends j (omega arith))
 
-    -- each pair is a vertex that is available
-    pub each : (j : ℕ) → j < rowCount s at → (rowTask s at j < 16) × (rowVertex s at j < 16) × (available t mid (16 * rowTask s at j + rowVertex s at j) ≡ true)
-    unfolding notAvailable pairAvailable
+    -- each triple is a vertex that is available
+    pub each : (j : ℕ) → j < rowCount s at → (rowTask s at j < 16) × (rowAge s at j < 4) × (rowVertex s at j < 16) × (available t mid (rowKey s at j) ≡ true)
+    unfolding notAvailable tripleAvailable rowKey
     each j b =
-        let a = all-at (rowCount s at) (λ j. pairAvailable t mid (rowTask s at j) (rowVertex s at j)) (not-false _ (p .available)) j b in
-        let c = both-true (ltb (rowTask s at j) 16 && ltb (rowVertex s at j) 16) _ a in
-        let d = both-true (ltb (rowTask s at j) 16) _ (c .0) in
-        (ltb-true (rowTask s at j) 16 (d .0), ltb-true (rowVertex s at j) 16 (d .1), c .1)
+        let a = all-at (rowCount s at) (λ j. tripleAvailable t mid (rowTask s at j) (rowAge s at j) (rowVertex s at j)) (not-false _ (p .available)) j b in
+        let c = both-true (ltb (rowTask s at j) 16 && ltb (rowAge s at j) 4 && ltb (rowVertex s at j) 16) _ a in
+        let d = both-true (ltb (rowTask s at j) 16 && ltb (rowAge s at j) 4) _ (c .0) in
+        let e = both-true (ltb (rowTask s at j) 16) _ (d .0) in
+        (ltb-true (rowTask s at j) 16 (e .0), ltb-true (rowAge s at j) 4 (e .1), ltb-true (rowVertex s at j) 16 (d .1), c .1)
 
-    pub listed-ascends : Asc 0 256 (listed s at)
-    unfolding listed rowPair
-    listed-ascends = asc-row (rowCount s at) 256 (λ j. 16 * rowTask s at j + rowVertex s at j)
-        (λ j b. let e = each j b in let x = e .0 in let y = e .1 in omega arith)
-        (λ j b. narrow (rowTask s at j) (rowVertex s at j) (rowTask s at (j + 1)) (rowVertex s at (j + 1)) (each j (omega arith) .1) (each (j + 1) b .1) (ascends-at j b))
+    key-below : (j : ℕ) → j < rowCount s at → rowKey s at j < 1024
+    unfolding rowKey
+    key-below j b = let e = each j b in let x = e .0 in let y = e .1 in let z = e .2 in omega arith
+
+    pub listed-ascends : Asc 0 1024 (listed s at)
+    unfolding listed rowKey rowTriple
+    listed-ascends = asc-row (rowCount s at) 1024 (rowKey s at) key-below (λ j b.
+        let e = each j (omega arith) in
+        let f = each (j + 1) b in
+        narrow (rowTask s at j) (rowAge s at j) (rowVertex s at j) (rowTask s at (j + 1)) (rowAge s at (j + 1)) (rowVertex s at (j + 1)) (e .1) (e .2) (f .1) (f .2) (ascends-at j b))
       where
-        narrow : (a b c d : ℕ) → b < 16 → d < 16 → 256 * a + b < 256 * c + d → 16 * a + b < 16 * c + d
-        narrow a b c d h k l = omega arith
+        narrow : (a p u b q v : ℕ) → p < 4 → u < 16 → q < 4 → v < 16 → 65536 * a + 256 * p + u < 65536 * b + 256 * q + v → 64 * a + 16 * p + u < 64 * b + 16 * q + v
+        narrow a p u b q v h k l m n = omega arith
 
     pub listed-keys : keysOf (listed s at) ≡ listed s at
     listed-keys = keys-same (listed s at) listed-ascends
 
     pub listed-length : length (listed s at) ≡ rowCount s at
     unfolding listed
-    listed-length = length-row (rowCount s at) (λ j. 16 * rowTask s at j + rowVertex s at j)
+    listed-length = length-row (rowCount s at) (rowKey s at)
 
-    listed-available : (a : ℕ) → isIn a (listed s at) ≡ true → (a < 256) × (available t mid a ≡ true)
+    listed-available : (a : ℕ) → isIn a (listed s at) ≡ true → (a < 1024) × (available t mid a ≡ true)
     unfolding listed
     listed-available a h =
-        let r = in-row (rowCount s at) (λ j. 16 * rowTask s at j + rowVertex s at j) a h in
-        let e = each (r .0) (r .1) in
-        let x = e .0 in
-        let y = e .1 in
+        let r = in-row (rowCount s at) (rowKey s at) a h in
+        let k = key-below (r .0) (r .1) in
         let q = r .2 in
-        (omega arith, ap (available t mid) (r .2) ∙ e .2)
+        (omega arith, ap (available t mid) (r .2) ∙ each (r .0) (r .1) .3)
 
     -- WHAT IT LISTS IS A LEGAL CHOICE
     pub listed-legal : Legal t mid (listed s at)
@@ -160,16 +164,16 @@ module _ (t : Table) (st : State) (s : List ℕ) (at : ℕ) where
       number =
           let c = listed-length in
           let h = ltb-false (rowCount s at) (min (t .m) (length (availables t mid))) (p .enough) in
-          let l = at-most 256 (available t mid) (listed s at) once listed-available in
+          let l = at-most 1024 (available t mid) (listed s at) once listed-available in
           let m = count-low in
           omega arith;
-      only = λ a h. let e = listed-available a h in below-all 256 (available t mid) a (e .0) (e .1);
-      first = λ a b h n k. ltb-false (left mid (a / 16)) (left mid (b / 16)) (off-when _ (λ e. clash (over a b h n k e) (p .first)));
+      only = λ a h. let e = listed-available a h in below-all 1024 (available t mid) a (e .0) (e .1);
+      first = λ a b h n k. ltb-false (leftIn mid a) (leftIn mid b) (off-when _ (λ e. clash (over a b h n k e) (p .first)));
     }
       where
         once : Distinct (listed s at)
         once = subst Distinct listed-keys (keys-distinct (listed s at))
 
         over : (a b : ℕ) → isIn a (availables t mid) ≡ true → isIn a (listed s at) ≡ false → isIn b (listed s at) ≡ true
-            → ltb (left mid (a / 16)) (left mid (b / 16)) ≡ true → passesOver t mid (listed s at) ≡ true
+            → ltb (leftIn mid a) (leftIn mid b) ≡ true → passesOver t mid (listed s at) ≡ true
         over a b h n k e = passes-over t mid (listed s at) a b h n k e

@@ -85,17 +85,17 @@ front [] r i h = absurd (omega arith)
 front (x ∷ s) r zero h = refl
 front (x ∷ s) r (suc i) h = front s r i (omega arith)
 
-whole : (s : List ℕ) (at : ℕ) → at + 5 + 2 * rowCount s at ≤ length s → cutShort s at ≡ false
+whole : (s : List ℕ) (at : ℕ) → at + 5 + 3 * rowCount s at ≤ length s → cutShort s at ≡ false
 unfolding cutShort rowEnd
 whole s at h = le-ltb (length s) (rowEnd s at) h
 
 module _ (t : Table) (s r : List ℕ) (bytes : (k : ℕ) → getD s k 0 < 2 ^ 8) where
-  row-alike : (p : Progress) → p .next + 515 ≤ length s → judgeRow t s p ≡ judgeRow t (s ++ r) p
+  row-alike : (p : Progress) → p .next + 770 ≤ length s → judgeRow t s p ≡ judgeRow t (s ++ r) p
   unfolding judgeRow ruled rowEnd rowCount
   row-alike p h =
       let c = bytes (p .next + 4) in
       let l = length-append s r in
-      let same : (i : ℕ) → i < 5 + 2 * rowCount s (p .next) → getD s (p .next + i) 0 ≡ getD (s ++ r) (p .next + i) 0 = λ i b. front s r (p .next + i) (omega arith) in
+      let same : (i : ℕ) → i < 5 + 3 * rowCount s (p .next) → getD s (p .next + i) 0 ≡ getD (s ++ r) (p .next + i) 0 = λ i b. front s r (p .next + i) (omega arith) in
       let n = same-count s (p .next) (s ++ r) (p .next) same in
       let k : cutShort s (p .next) ≡ cutShort (s ++ r) (p .next) = whole s (p .next) (omega arith) ∙ sym (whole (s ++ r) (p .next) (omega arith)) in
       rw (same-fault s (p .next) (s ++ r) (p .next) same t (p .state) k, n, same-set s (p .next) (s ++ r) (p .next) same, same-listed s (p .next) (s ++ r) (p .next) same) refl
@@ -109,7 +109,7 @@ module _ (t : Table) (s : List ℕ) (n rows : ℕ) (within : n ≤ length s) whe
     abbrev at : ℕ
     at = p .next
 
-    same : (i : ℕ) → i < 5 + 2 * rowCount (drop n s) at → getD (drop n s) (at + i) 0 ≡ getD s (n + at + i) 0
+    same : (i : ℕ) → i < 5 + 3 * rowCount (drop n s) at → getD (drop n s) (at + i) 0 ≡ getD s (n + at + i) 0
     same i h = let e : n + (at + i) ≡ n + at + i = omega arith in getD-drop n s (at + i) 0 ∙ ap (λ (k : ℕ). getD s k 0) e
 
     same-cut : cutShort (drop n s) at ≡ cutShort s (n + at)
@@ -117,9 +117,9 @@ module _ (t : Table) (s : List ℕ) (n rows : ℕ) (within : n ≤ length s) whe
     same-cut =
         let c = same-count (drop n s) at s (n + at) same in
         let l = length-drop n s in
-        elim (decLt (length s) (n + at + 5 + 2 * rowCount s (n + at))) [
-          | yes h ↦ lt-ltb (length (drop n s)) (at + 5 + 2 * rowCount (drop n s) at) (omega arith) ∙ sym (lt-ltb (length s) (n + at + 5 + 2 * rowCount s (n + at)) h)
-          | no h ↦ le-ltb (length (drop n s)) (at + 5 + 2 * rowCount (drop n s) at) (omega arith) ∙ sym (le-ltb (length s) (n + at + 5 + 2 * rowCount s (n + at)) (omega arith))
+        elim (decLt (length s) (n + at + 5 + 3 * rowCount s (n + at))) [
+          | yes h ↦ lt-ltb (length (drop n s)) (at + 5 + 3 * rowCount (drop n s) at) (omega arith) ∙ sym (lt-ltb (length s) (n + at + 5 + 3 * rowCount s (n + at)) h)
+          | no h ↦ le-ltb (length (drop n s)) (at + 5 + 3 * rowCount (drop n s) at) (omega arith) ∙ sym (le-ltb (length s) (n + at + 5 + 3 * rowCount s (n + at)) (omega arith))
         ]
 
     its-fault : fault t (p .state) (drop n s) at ≡ fault t (p .state) s (n + at)
@@ -130,7 +130,7 @@ module _ (t : Table) (s : List ℕ) (n rows : ℕ) (within : n ≤ length s) whe
     row-moved = elim (ℕ-discrete (fault t (p .state) (drop n s) at) 0) [
       | yes e ↦
           let c = same-count (drop n s) at s (n + at) same in
-          let a : n + at + 5 + 2 * rowCount s (n + at) ≡ n + (at + 5 + 2 * rowCount (drop n s) at) = omega arith in
+          let a : n + at + 5 + 3 * rowCount s (n + at) ≡ n + (at + 5 + 3 * rowCount (drop n s) at) = omega arith in
           let b : rows + p .rows + 1 ≡ rows + (p .rows + 1) = omega arith in
           let r = legal-row t s (moved p) (sym its-fault ∙ e) in
           let q = legal-row t (drop n s) p e in
@@ -195,7 +195,7 @@ then-rest t s r q e w =
     ∙ rw (eq-eqb (q .number) 0 e) refl
 
 -- THE THEOREM
-module _ (t : Table) (s r : List ℕ) (bytes : (k : ℕ) → getD s k 0 < 2 ^ 8) (end : ℕ) (h : end + 514 ≤ length s) (st : State) where
+module _ (t : Table) (s r : List ℕ) (bytes : (k : ℕ) → getD s k 0 < 2 ^ 8) (end : ℕ) (h : end + 769 ≤ length s) (st : State) where
   abbrev journal : List ℕ
   journal = s ++ r
 

@@ -12,15 +12,15 @@ use Rattle.graph.proofs.Facts.{lowest-none, lowestOr-none}
 use Rattle.graph.proofs.Bits.{bit-zero}
 use Rattle.table.specs.declared.Table.{Table}
 use Rattle.machine.specs.declared.State.{State}
-use Rattle.machine.specs.States.{wait, left}
+use Rattle.machine.specs.States.{wait}
 use Rattle.machine.specs.declared.Ticked.{Ticked}
 use Rattle.machine.specs.declared.Offer.{Offer}
-use Rattle.machine.specs.Steps.{released, availables, availableSets, offered}
+use Rattle.machine.specs.Steps.{released, availables, availableSets, leftAt, offered}
 use Rattle.machine.specs.Ticking.{advance}
 use Rattle.machine.proofs.Lowest.{lowestOr-is}
-use Rattle.machine.proofs.Searching.{found, found-none}
 use Rattle.journal.specs.Rows.{rowSet, rowCount, rowEnd, listed, isStopped, cutShort, wrongMark, badList, notAvailable, tooFew, passesOver, choiceFault, setFault, fault}
 use Rattle.journal.specs.Listing.{SetTested}
+use Rattle.machine.proofs.Lowest.{found, found-none}
 
 -- ---- those of its bytes and its release set
 module _ (t : Table) (st : State) (s : List ℕ) (at : ℕ) where
@@ -119,7 +119,7 @@ module _ (t : Table) (st : State) (set : ℕ) where
   unfolding offered
   offered-sets o e = ap (λ (x : Offer). x .sets) e
 
-  pub offered-left : (o : Offer) → o ≡ offered t st set → o .left ≡ row 16 (left (released t st set))
+  pub offered-left : (o : Offer) → o ≡ offered t st set → o .left ≡ row 64 (leftAt (released t st set))
   unfolding offered
   offered-left o e = ap (λ (x : Offer). x .left) e
 

@@ -21,13 +21,13 @@ module _ (s : List ℕ) (at : ℕ) where
   -- 40: not even its first five bytes are there
   pub cut-head : length s < at + 5 → true ≡ cutShort s at
   unfolding cutShort rowEnd
-  cut-head h = sym (lt-ltb (length s) (at + 5 + 2 * rowCount s at) (omega arith))
+  cut-head h = sym (lt-ltb (length s) (at + 5 + 3 * rowCount s at) (omega arith))
 
   -- or not all that its count says
-  pub cut-pairs : (rest count : ℕ) → rest + at ≡ length s → count ≡ getD s (at + 4) 0 → ltb rest (5 + 2 * count) ≡ cutShort s at
+  pub cut-triples : (rest count : ℕ) → rest + at ≡ length s → count ≡ getD s (at + 4) 0 → ltb rest (5 + 3 * count) ≡ cutShort s at
   unfolding cutShort rowEnd rowCount
-  cut-pairs rest count e q =
-      same-ltb rest (5 + 2 * count) (length s) (at + 5 + 2 * getD s (at + 4) 0) (λ h. omega arith) (λ h. omega arith)
+  cut-triples rest count e q =
+      same-ltb rest (5 + 3 * count) (length s) (at + 5 + 3 * getD s (at + 4) 0) (λ h. omega arith) (λ h. omega arith)
 
   -- 41
   pub mark-first : (getD s at 0 ≡ 0x4A → ⊥) → true ≡ wrongMark s at

@@ -3,19 +3,22 @@ use mathlib.Core.Path.{_≡_, refl, sym, ap, subst, _∙_}
 use mathlib.Core.Logic.{_⊎_, inl, inr, ⊎-elim}
 use mathlib.Core.Bool.{Bool, true, false, _&&_}
 use mathlib.Core.List.{List, [], _∷_}
-use Prim.Native.Nat.{ℕ, _^_, _<_}
+use Prim.Native.Nat.{ℕ, _+_, _*_, _-_, _/_, _%_, _^_, _<_}
 use native.Mathlib.Omega.{arith}
+use lib.ListN.{getD}
+use lib.Dec.{ltb}
 use borrow.Author.Tests.{leb-false, ltb-false}
-use Rattle.graph.specs.Words.{bit, thoseBelow, isIn, firstOr, lowestOr}
-use Rattle.graph.proofs.Facts.{clash}
+use Rattle.graph.specs.Words.{flag, pick, bit, row, thoseBelow, isIn, firstOr, lowestOr}
+use Rattle.graph.proofs.Facts.{clash, sum-same}
+use Rattle.graph.proofs.Members.{held-below}
 use Rattle.table.specs.declared.Table.{Table}
 use Rattle.table.specs.declared.Outcome.the-variants.{Read}
 use Rattle.table.specs.Reading.{read}
 use Rattle.machine.specs.declared.Phase.the-variants.{Stopped}
 use Rattle.machine.specs.declared.State.{State}
 use Rattle.machine.specs.declared.Ticked.{Ticked}
-use Rattle.machine.specs.States.{wait, zeros}
-use Rattle.machine.specs.Steps.{released, worked, ended, finished, missed, Legal}
+use Rattle.machine.specs.States.{wait, remaining, zeros}
+use Rattle.machine.specs.Steps.{nameAt, released, runOf, worked, ended, finished, missed, Legal}
 use Rattle.machine.specs.Fitting.{fits}
 use Rattle.machine.specs.Ticking.{ticked, judged, advanceTo, advance, refuse, tickOn}
 use Rattle.machine.proofs.Index.{released-phase, worked-phase, ended-phase}
@@ -23,11 +26,10 @@ use Rattle.machine.proofs.Lowest.{lowest-cases}
 use Rattle.machine.proofs.Cases.{beyond, tooSoon, Admitted, Case, unfit, halted, no-task, early, misses, goes-on, cases, admitted-advances}
 use Rattle.machine.proofs.Fitted.{InRange}
 use Rattle.machine.proofs.Files.{tick-fits}
-use Rattle.machine.proofs.Keeping.{bit-below}
-use Rattle.machine.proofs.Together.{same-work}
 use Rattle.machine.proofs.Refusing.{on-table}
 use Rattle.journal.specs.Rows.{isStopped}
 use Rattle.journal.specs.Runs.{Tick, tickWith, answerOf, LegalTick}
+use Rattle.machine.proofs.Filling.{row-ext}
 
 -- ---- steps 4 to 6 answer 0 and go on, or 34 and stop
 pub data Answers (x : Ticked) : Type 0 where
@@ -64,7 +66,19 @@ judged-state a b done st = go (thoseBelow 16 (missed st))
     go [] = refl
     go (i ∷ l) = refl
 
-pub same-advance : (t : Table) (st : State) (named : ℕ) (a b : List ℕ) → ((k : ℕ) → k < 256 → isIn k a ≡ isIn k b)
+same-work : (t : Table) (st : State) (named : ℕ) (a b : List ℕ) → ((k : ℕ) → k < 1024 → isIn k a ≡ isIn k b) → worked t st named a ≡ worked t st named b
+unfolding worked runOf nameAt
+same-work t st named a b same = rw (rest, work) refl
+  where
+    rest : row 1024 (λ k. pick (isIn (nameAt k) a) (getD (st .remaining) k 0 - 1) (getD (st .remaining) k 0))
+        ≡ row 1024 (λ k. pick (isIn (nameAt k) b) (getD (st .remaining) k 0 - 1) (getD (st .remaining) k 0))
+    rest = row-ext 1024 0 _ _ (λ k h. ap (λ (c : Bool). pick c (getD (st .remaining) k 0 - 1) (getD (st .remaining) k 0)) (same (nameAt k) (omega arith)))
+
+    work : row 64 (λ s. getD (st .work) s 0 - runOf st (s % 16) (s / 16) a) ≡ row 64 (λ s. getD (st .work) s 0 - runOf st (s % 16) (s / 16) b)
+    work = row-ext 64 0 _ _ (λ s h. ap (λ (n : ℕ). getD (st .work) s 0 - n) (sum-same 16 _ _ (λ u l.
+        ap (λ (c : Bool). flag (c && ltb 0 (remaining st (s % 16) (s / 16) u))) (same (64 * (s % 16) + 16 * (s / 16) + u) (omega arith)))))
+
+pub same-advance : (t : Table) (st : State) (named : ℕ) (a b : List ℕ) → ((k : ℕ) → k < 1024 → isIn k a ≡ isIn k b)
     → advance t st named a .state ≡ advance t st named b .state
 unfolding advance advanceTo
 same-advance t st named a b same =
@@ -99,7 +113,7 @@ and-false false b h e = absurd (clash e refl)
 module _ (choose : Table → State → List ℕ) (t : Table) (st : State) (named : ℕ) (bits : named < 2 ^ 16) (ok : Admitted choose t st named) where
   pub named-tasks : (i : ℕ) → bit named i ≡ true → i < t .n
   unfolding beyond
-  named-tasks i e = leb-false (t .n) i (and-false (bit named i) _ (ok .tasks i (bit-below named i bits e)) e)
+  named-tasks i e = leb-false (t .n) i (and-false (bit named i) _ (ok .tasks i (held-below named i bits e)) e)
 
   pub named-free : (i : ℕ) → bit named i ≡ true → wait st i ≡ 0
   unfolding tooSoon

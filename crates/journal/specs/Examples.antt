@@ -1,4 +1,5 @@
--- Journals and their rulings, computed: each refusal of M-100 once, a run in which ties fall differently, and one that misses.
+-- Journals and their rulings, computed: each refusal of M-100 once, a run in which ties fall differently, one that misses, and one with two live jobs of
+-- a task.
 use mathlib.Core.Bool.{Bool, true, false, _&&_, not}
 use mathlib.Core.List.{List, [], _∷_, _++_}
 use Prim.Native.Nat.{ℕ}
@@ -23,17 +24,21 @@ pair = 0x54 ∷ 0x42 ∷ 2 ∷ 3 ∷ (task 3 1 ++ task 2 1 ++ task 2 1)
 unfoldable pub late : List ℕ
 late = 0x54 ∷ 0x42 ∷ 1 ∷ 1 ∷ task 1 2
 
--- a row that names a set below 256 and lists some bytes of pairs
+-- m processors; a task of cost 2 that has 3 ticks and may come each tick (M-109)
+unfoldable pub often : ℕ → List ℕ
+often m = 0x54 ∷ 0x42 ∷ m ∷ 1 ∷ 0x54 ∷ 0x4B ∷ 1 ∷ 0 ∷ 3 ∷ 0 ∷ 0 ∷ 0 ∷ 1 ∷ 0 ∷ 0 ∷ 0 ∷ 2 ∷ 0 ∷ 0 ∷ 0 ∷ []
+
+-- a row that names a set below 256 and lists some bytes of triples
 unfoldable pub line : ℕ → ℕ → List ℕ → List ℕ
-line set count pairs = 0x4A ∷ 0x52 ∷ set ∷ 0 ∷ count ∷ pairs
+line set count triples = 0x4A ∷ 0x52 ∷ set ∷ 0 ∷ count ∷ triples
 
 -- all tasks are released, and task i runs
 unfoldable pub begins : ℕ → List ℕ
-begins i = line 7 1 (i ∷ 0 ∷ [])
+begins i = line 7 1 (i ∷ 0 ∷ 0 ∷ [])
 
 -- nothing is released, and task i runs
 unfoldable pub runs : ℕ → List ℕ
-runs i = line 0 1 (i ∷ 0 ∷ [])
+runs i = line 0 1 (i ∷ 0 ∷ 0 ∷ [])
 
 pub record Example : Type 0 where
   pub file : List ℕ
@@ -67,31 +72,38 @@ examples =
     ∷ accepts three (begins 1 ++ runs 2 ++ runs 0) 3 false
     ∷ accepts three (begins 2 ++ runs 1 ++ runs 0) 3 false
     -- a miss in the last row
-    ∷ accepts late (line 1 1 (0 ∷ 0 ∷ [])) 1 true
+    ∷ accepts late (line 1 1 (0 ∷ 0 ∷ 0 ∷ [])) 1 true
+    -- two live jobs of task 0; the older one ends in the second row, so the other is the oldest in the third
+    ∷ accepts (often 2) (line 1 1 (0 ∷ 0 ∷ 0 ∷ []) ++ line 1 2 (0 ∷ 0 ∷ 0 ∷ 0 ∷ 1 ∷ 0 ∷ []) ++ line 0 1 (0 ∷ 0 ∷ 0 ∷ [])) 3 false
     -- reading's number and place, row 0
     ∷ record { file = 0x54 ∷ []; journal = 0 ∷ []; ruling = record { number = 1; place = 0; row = 0; rows = 0; missed = false } }
     -- 47 any byte after a miss
-    ∷ refuses late (line 1 1 (0 ∷ 0 ∷ []) ++ (0 ∷ [])) 47 1
+    ∷ refuses late (line 1 1 (0 ∷ 0 ∷ 0 ∷ []) ++ (0 ∷ [])) 47 1
     -- 40 a row cut short, also one whose mark is wrong
-    ∷ refuses three (begins 1 ++ line 0 1 (2 ∷ [])) 40 1
+    ∷ refuses three (begins 1 ++ line 0 1 (2 ∷ 0 ∷ [])) 40 1
     ∷ refuses three (0x4B ∷ []) 40 0
     -- 41 wrong mark
     ∷ refuses three (begins 1 ++ (0x4A ∷ 0x4A ∷ 0 ∷ 0 ∷ 0 ∷ [])) 41 1
-    -- 42 count above m, or pairs not ascending: with m 2 the same pairs in order are accepted
-    ∷ refuses three (line 7 2 (1 ∷ 0 ∷ 2 ∷ 0 ∷ [])) 42 0
-    ∷ refuses pair (line 7 2 (2 ∷ 0 ∷ 1 ∷ 0 ∷ [])) 42 0
-    ∷ refuses pair (line 7 2 (1 ∷ 0 ∷ 1 ∷ 0 ∷ [])) 42 0
-    ∷ accepts pair (line 7 2 (1 ∷ 0 ∷ 2 ∷ 0 ∷ [])) 1 false
+    -- 42 count above m, or triples not ascending: with m 2 the same triples in order are accepted
+    ∷ refuses three (line 7 2 (1 ∷ 0 ∷ 0 ∷ 2 ∷ 0 ∷ 0 ∷ [])) 42 0
+    ∷ refuses pair (line 7 2 (2 ∷ 0 ∷ 0 ∷ 1 ∷ 0 ∷ 0 ∷ [])) 42 0
+    ∷ refuses pair (line 7 2 (1 ∷ 0 ∷ 0 ∷ 1 ∷ 0 ∷ 0 ∷ [])) 42 0
+    ∷ refuses (often 2) (line 1 1 (0 ∷ 0 ∷ 0 ∷ []) ++ line 1 2 (0 ∷ 1 ∷ 0 ∷ 0 ∷ 0 ∷ 0 ∷ [])) 42 1
+    ∷ accepts pair (line 7 2 (1 ∷ 0 ∷ 0 ∷ 2 ∷ 0 ∷ 0 ∷ [])) 1 false
     -- 31, also where task 2 has to wait; 33
-    ∷ refuses three (begins 1 ++ line 12 1 (2 ∷ 0 ∷ [])) 31 1
-    ∷ refuses three (begins 1 ++ line 4 1 (2 ∷ 0 ∷ [])) 33 1
-    -- 44 a listed vertex not available: it is done; it is no vertex, also where 16 * 0 + 16 is one
+    ∷ refuses three (begins 1 ++ line 12 1 (2 ∷ 0 ∷ 0 ∷ [])) 31 1
+    ∷ refuses three (begins 1 ++ line 4 1 (2 ∷ 0 ∷ 0 ∷ [])) 33 1
+    -- 44 a listed vertex not available: it is done; it is no vertex, also where 64 * 0 + 16 * 0 + 64 is one; there is no such job, also where 64 * 0 + 16 * 4
+    -- is the number of one that there is
     ∷ refuses three (begins 1 ++ runs 1) 44 1
-    ∷ refuses three (line 7 1 (0 ∷ 16 ∷ [])) 44 0
+    ∷ refuses three (line 7 1 (0 ∷ 0 ∷ 64 ∷ [])) 44 0
+    ∷ refuses three (line 7 1 (1 ∷ 1 ∷ 0 ∷ [])) 44 0
+    ∷ refuses three (line 7 1 (0 ∷ 4 ∷ 0 ∷ [])) 44 0
     -- 45 fewer listed than the smaller of m and the available
     ∷ refuses three (line 7 0 []) 45 0
-    -- 46 an earlier deadline passed over
+    -- 46 an earlier deadline passed over, of another task or of an older job
     ∷ refuses three (begins 0) 46 0
+    ∷ refuses (often 1) (line 1 1 (0 ∷ 0 ∷ 0 ∷ []) ++ line 1 1 (0 ∷ 1 ∷ 0 ∷ [])) 46 1
     ∷ []
 
 -- THE STATEMENT: they all hold

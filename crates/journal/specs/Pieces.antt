@@ -1,4 +1,4 @@
--- Judging a journal in pieces, so that a buffer of some size is enough for any length. A row has at most 5 + 2 * 255 = 515 bytes.
+-- Judging a journal in pieces, so that a buffer of some size is enough for any length. A row has at most 5 + 3 * 255 = 770 bytes.
 -- Proved in proofs/Pieces.antt.
 use mathlib.Core.Path.{_≡_}
 use mathlib.Core.List.{List, _++_}
@@ -22,9 +22,9 @@ goOn t s r p =
     let left = drop (p .next) s ++ r in
     pick (eqb (p .number) 0) (behind p (judgeRows t left (length left) (start (p .state)))) p
 
--- A piece s, and r follows it. The rows that begin before `end` are judged by the piece alone, if 514 bytes or more stand behind `end`.
+-- A piece s, and r follows it. The rows that begin before `end` are judged by the piece alone, if 769 bytes or more stand behind `end`.
 abbrev pub InPieces : Type 0
 InPieces =
     (t : Table) (s r : List ℕ) → ((k : ℕ) → getD s k 0 < 2 ^ 8)
-    → (end : ℕ) → end + 514 ≤ length s
+    → (end : ℕ) → end + 769 ≤ length s
     → (st : State) → judgeRows t (s ++ r) (length (s ++ r)) (start st) ≡ goOn t s r (judgeRows t s end (start st))

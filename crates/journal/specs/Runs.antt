@@ -9,13 +9,13 @@ use lib.Dec.{eqb}
 use Rattle.graph.specs.Words.{pick, thoseBelow, isIn}
 use Rattle.table.specs.Reading.{read}
 use Rattle.machine.specs.declared.State.{State}
-use Rattle.machine.specs.declared.Pair.{Pair}
+use Rattle.machine.specs.declared.Triple.{Triple}
 use Rattle.machine.specs.declared.Ticked.{Ticked}
 use Rattle.machine.specs.States.{opening}
-use Rattle.machine.specs.Steps.{released, Legal}
+use Rattle.machine.specs.Steps.{taskIn, ageIn, vertexIn, released, Legal}
 use Rattle.machine.specs.Ticking.{tickBy, tick}
 
--- A TICK of a run: its release set, and the vertices that it runs, each "sixteen times task plus vertex"
+-- A TICK of a run: its release set, and the vertices that it runs, each 64 times task, 16 times age place, vertex
 pub record Tick : Type 0 where
   pub named : ℕ
   pub chosen : List ℕ
@@ -56,17 +56,17 @@ lastAnswer file st was (x ∷ xs) = lastAnswer file (tickWith file st x .state) 
 unfoldable pub lastMissed : List ℕ → ℕ → List Tick → Bool
 lastMissed file clock run = eqb (lastAnswer file (opening file clock .state) 0 run) 34
 
--- ITS WRITING. "rows, each with mark 4A 52, release set (2 bytes), run count (1), then that many (task, vertex) byte pairs,
--- ascending strictly"
+-- ITS WRITING. "rows, each with mark 4A 52, release set (2 bytes), run count (1), then that many" triples, "ascending strictly"; M-109: "(task, age place,
+-- vertex) in three bytes", "and journal rows ascend by task, age place, vertex"
 unfoldable pub keysOf : List ℕ → List ℕ
-keysOf chosen = thoseBelow 256 (λ k. isIn k chosen)
+keysOf chosen = thoseBelow 1024 (λ k. isIn k chosen)
 
-unfoldable pub pairBytes : List ℕ → List ℕ
-pairBytes [] = []
-pairBytes (k ∷ ks) = k / 16 ∷ k % 16 ∷ pairBytes ks
+unfoldable pub tripleBytes : List ℕ → List ℕ
+tripleBytes [] = []
+tripleBytes (k ∷ ks) = taskIn k ∷ ageIn k ∷ vertexIn k ∷ tripleBytes ks
 
 unfoldable pub rowBytes : ℕ → List ℕ → List ℕ
-rowBytes named keys = 0x4A ∷ 0x52 ∷ named % 256 ∷ named / 256 ∷ length keys ∷ pairBytes keys
+rowBytes named keys = 0x4A ∷ 0x52 ∷ named % 256 ∷ named / 256 ∷ length keys ∷ tripleBytes keys
 
 unfoldable pub writing : List Tick → List ℕ
 writing [] = []
@@ -80,13 +80,13 @@ SameRun (x ∷ xs) [] = ⊥
 SameRun (x ∷ xs) (y ∷ ys) = (x .named ≡ y .named) × ((k : ℕ) → isIn k (x .chosen) ≡ isIn k (y .chosen)) × SameRun xs ys
 
 -- THE MACHINE'S OWN RUN on a list of release sets: what its answers say that it ran
-unfoldable pub keyIf : Pair → List ℕ → List ℕ
-keyIf p keys = pick (eqb (p .task) 255) keys ((16 * p .task + p .vertex) ∷ keys)
+unfoldable pub keyIf : Triple → List ℕ → List ℕ
+keyIf x keys = pick (eqb (x .task) 255) keys ((64 * x .task + 16 * x .age + x .vertex) ∷ keys)
 
 -- the run list's places that are used
-unfoldable pub ranKeys : List Pair → List ℕ
+unfoldable pub ranKeys : List Triple → List ℕ
 ranKeys [] = []
-ranKeys (p ∷ ps) = keyIf p (ranKeys ps)
+ranKeys (x ∷ xs) = keyIf x (ranKeys xs)
 
 unfoldable pub ownRun : List ℕ → State → List ℕ → List Tick
 ownRun file st [] = []

@@ -4,7 +4,7 @@ ghost use mathlib.Core.Bool.{_||_, not};
 ghost use Prim.Native.Nat.{_+_, _*_, _≤_, _<_};
 ghost use lib.ListN.{length};
 ghost use lib.Dec.{ltb};
-ghost use Rattle.journal.specs.Rows.{rowSet, rowCount, rowTask, rowVertex, rowEnd, rowPair, cutShort, wrongMark, ascending};
+ghost use Rattle.journal.specs.Rows.{rowSet, rowCount, rowTask, rowAge, rowVertex, rowEnd, rowTriple, cutShort, wrongMark, ascending};
 
 // A byte as an index, with its bound.
 fn wide(x: u8) -> usize
@@ -26,7 +26,7 @@ pub(crate) fn is_cut(bytes: &[u8], at: usize) -> bool
         return true;
     }
     let count = wide(bytes[at + 4]);
-    let needed = 5 + 2 * count;
+    let needed = 5 + 3 * count;
     rest < needed
 }
 
@@ -64,36 +64,45 @@ pub(crate) fn end_at(bytes: &[u8], at: usize) -> usize
     requires { ⌜ rowEnd (now bytes) at ≤ length (now bytes) ⌝ }
     ensures { λ r. ⌜ r ≡ rowEnd (now (bytes .entry)) at ⌝ }
 {
-    at + 5 + 2 * count_at(bytes, at)
+    at + 5 + 3 * count_at(bytes, at)
 }
 
-// The task of pair j.
+// The task of triple j.
 pub(crate) fn task_at(bytes: &[u8], at: usize, j: usize) -> usize
-    requires { ⌜ at + 5 + 2 * j + 2 ≤ length (now bytes) ⌝ }
+    requires { ⌜ at + 5 + 3 * j + 3 ≤ length (now bytes) ⌝ }
     ensures { λ r. ⌜ (r ≡ rowTask (now (bytes .entry)) at j) × (r < 256) ⌝ }
 {
-    wide(bytes[at + 5 + 2 * j])
+    wide(bytes[at + 5 + 3 * j])
 }
 
-// The vertex of pair j.
+// Its age place.
+pub(crate) fn age_at(bytes: &[u8], at: usize, j: usize) -> usize
+    requires { ⌜ at + 5 + 3 * j + 3 ≤ length (now bytes) ⌝ }
+    ensures { λ r. ⌜ (r ≡ rowAge (now (bytes .entry)) at j) × (r < 256) ⌝ }
+{
+    wide(bytes[at + 6 + 3 * j])
+}
+
+// Its vertex.
 pub(crate) fn vertex_at(bytes: &[u8], at: usize, j: usize) -> usize
-    requires { ⌜ at + 5 + 2 * j + 2 ≤ length (now bytes) ⌝ }
+    requires { ⌜ at + 5 + 3 * j + 3 ≤ length (now bytes) ⌝ }
     ensures { λ r. ⌜ (r ≡ rowVertex (now (bytes .entry)) at j) × (r < 256) ⌝ }
 {
-    wide(bytes[at + 6 + 2 * j])
+    wide(bytes[at + 7 + 3 * j])
 }
 
-// Pair j as one number, by which pairs ascend.
-fn pair_at(bytes: &[u8], at: usize, j: usize) -> usize
-    requires { ⌜ at + 5 + 2 * j + 2 ≤ length (now bytes) ⌝ }
-    ensures { λ r. ⌜ r ≡ rowPair (now (bytes .entry)) at j ⌝ }
+// Triple j as one number, by which triples ascend.
+fn triple_at(bytes: &[u8], at: usize, j: usize) -> usize
+    requires { ⌜ at + 5 + 3 * j + 3 ≤ length (now bytes) ⌝ }
+    ensures { λ r. ⌜ r ≡ rowTriple (now (bytes .entry)) at j ⌝ }
 {
     let i = task_at(bytes, at, j);
+    let p = age_at(bytes, at, j);
     let u = vertex_at(bytes, at, j);
-    256 * i + u
+    65536 * i + 256 * p + u
 }
 
-// Whether the pairs ascend strictly.
+// Whether the triples ascend strictly.
 fn ascends(bytes: &[u8], at: usize) -> bool
     requires { ⌜ rowEnd (now bytes) at ≤ length (now bytes) ⌝ }
     ensures { λ r. ⌜ r ≡ ascending (now (bytes .entry)) at ⌝ }
@@ -101,8 +110,8 @@ fn ascends(bytes: &[u8], at: usize) -> bool
     let count = count_at(bytes, at);
     let mut j: usize = 0;
     while j + 1 < count {
-        let here = pair_at(bytes, at, j);
-        let next = pair_at(bytes, at, j + 1);
+        let here = triple_at(bytes, at, j);
+        let next = triple_at(bytes, at, j + 1);
         if next <= here {
             return false;
         }

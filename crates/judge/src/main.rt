@@ -69,16 +69,16 @@ fn keep(buf: &mut [u8], from: usize, n: usize) -> usize {
     k
 }
 
-// Where the last row of a piece may begin: 514 bytes or more stand behind it, unless the journal ends there. So the piece alone
+// Where the last row of a piece may begin: 769 bytes or more stand behind it, unless the journal ends there. So the piece alone
 // decides, whatever follows (`InPieces`, the crate journal).
 fn end_of(n: usize, last: bool) -> usize {
     if last {
         return n;
     }
-    if n < 514 {
+    if n < 769 {
         return 0;
     }
-    n - 514
+    n - 769
 }
 
 // One piece. A journal has fewer than 2^64 rows.
@@ -145,7 +145,7 @@ fn ruling_on(file: &[u8]) -> Ruling {
 
 // Writes a line.
 fn print(line: Line) -> bool {
-    let n = smaller(line.len, 640);
+    let n = smaller(line.len, 2048);
     let words = line.bytes;
     io::write_all(STDOUT_FILENO, &words[..n])
 }

@@ -68,5 +68,5 @@ module _ (r : Ruling) where
       go false true = unread-most
       go false false = refused-most
 
-  pub ruling-put : (after : List ℕ) (next : ℕ) → Put (replicate 640 0) 0 (rulingLine r) after next → (record { bytes = after; len = next }) ≡ lineOf (rulingLine r)
+  pub ruling-put : (after : List ℕ) (next : ℕ) → Put (replicate 2048 0) 0 (rulingLine r) after next → (record { bytes = after; len = next }) ≡ lineOf (rulingLine r)
   ruling-put after next = line-put (rulingLine r) after next (omega (arith, ruling-most))

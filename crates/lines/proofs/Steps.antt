@@ -1,7 +1,7 @@
 -- A step in memory from its parts; numbers of four bytes by their bytes; the first 5,061 bytes of a table are enough for a step.
 use mathlib.Core.Path.{_≡_, ap, ap₂, _∙_}
 use mathlib.Core.List.{List}
-use Prim.Native.Nat.{ℕ, _+_, _*_}
+use Prim.Native.Nat.{ℕ, _+_, _*_, _/_, _%_}
 use lib.ListN.{getD}
 use lib.Seq.{getD-drop}
 use Rattle.machine.specs.declared.State.{State}
@@ -23,9 +23,9 @@ pub opening-shown : (s : List ℕ) (clock : ℕ) (l : Line) (o : Opened) → l �
 unfolding shownOpening
 opening-shown s clock l o e f = ap₂ (λ (x : Line) (y : Opened). record { line = x; number = y .reply .number; state = y .state }) e f
 
--- the line of the live tasks and the work left after the tick
+-- the line of the live jobs and the work left after the tick
 pub tick-shown : (s : List ℕ) (st : State) (named : ℕ) (l : Line) (t : Ticked) (set : ℕ) → l ≡ lineOf (tickLine (st .clock) named (t .answer) set (t .state .work))
-    → set ≡ setOf 16 (live (t .state)) → t ≡ tick s st named → (record { line = l; number = t .answer .reply .number; state = t .state }) ≡ shownTick s st named
+    → set ≡ setOf 64 (λ s. live (t .state) (s % 16) (s / 16)) → t ≡ tick s st named → (record { line = l; number = t .answer .reply .number; state = t .state }) ≡ shownTick s st named
 unfolding shownTick tickedLine
 tick-shown s st named l t set e f h =
     let k = e ∙ ap (λ (x : ℕ). lineOf (tickLine (st .clock) named (t .answer) x (t .state .work))) f in

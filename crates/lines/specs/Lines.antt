@@ -1,7 +1,7 @@
 -- The lines that show a table run, as bytes: "one line each (ending in byte 10), fields parted by one space". Documents 01 and 02 have no
 -- such lines: what is quoted here and in Watching.antt is their own form.
 use mathlib.Core.List.{List, [], _∷_, _++_}
-use Prim.Native.Nat.{ℕ, _-_}
+use Prim.Native.Nat.{ℕ, _+_, _*_, _-_, _/_, _%_}
 use lib.Dec.{eqb}
 use lib.ListN.{length, getD, replicate}
 use Rattle.graph.specs.Words.{pick, bit, inOrder}
@@ -12,7 +12,7 @@ use Rattle.table.specs.declared.Loaded.{Loaded}
 use Rattle.table.specs.Numbers.{number, place}
 use Rattle.table.specs.Reading.{whenRead, read}
 use Rattle.machine.specs.declared.Reply.{Reply}
-use Rattle.machine.specs.declared.Pair.{Pair}
+use Rattle.machine.specs.declared.Triple.{Triple}
 use Rattle.machine.specs.declared.Answer.{Answer}
 use Rattle.lines.specs.declared.Line.{Line}
 
@@ -42,21 +42,27 @@ numberIn set i = pick (bit set i) (text " " ++ decimal i) []
 unfoldable pub numbersIn : ℕ → List ℕ
 numbersIn set = orDash (inOrder 16 (numberIn set))
 
--- "X is task.vertex in rank order parted by spaces": an unused place of the run list shows nothing
-unfoldable pub vertexText : Pair → List ℕ
-vertexText p = pick (eqb (p .task) 255) [] (text " " ++ decimal (p .task) ++ text "." ++ decimal (p .vertex))
+-- "X is task.age.vertex in rank order parted by spaces": an unused place of the run list shows nothing
+unfoldable pub vertexText : Triple → List ℕ
+vertexText p =
+    pick (eqb (p .task) 255) [] (text " " ++ decimal (p .task) ++ text "." ++ decimal (p .age) ++ text "." ++ decimal (p .vertex))
 
-unfoldable pub verticesText : List Pair → List ℕ
+unfoldable pub verticesText : List Triple → List ℕ
 verticesText [] = []
 verticesText (p ∷ ps) = vertexText p ++ verticesText ps
 
--- "TASK:WORK": task i and what is left of its job's work, if it is one of the live tasks
-unfoldable pub workIn : ℕ → List ℕ → ℕ → List ℕ
-workIn live work i = pick (bit live i) (text " " ++ decimal i ++ text ":" ++ decimal (getD work i 0)) []
+-- the slot of the job that comes c-th in a line: four age places a task, and a slot is 16 times age place plus task
+abbrev pub slotIn : ℕ → ℕ
+slotIn c = 16 * (c % 4) + c / 4
 
--- "` left TASK:WORK ..` for the live jobs after the tick, ascending by task, or ` left -`"
+-- "TASK.AGE:WORK": task c / 4, age place c % 4 and what is left of the work of the job there, if there is a live one
+unfoldable pub workIn : ℕ → List ℕ → ℕ → List ℕ
+workIn live work c =
+    pick (bit live (slotIn c)) (text " " ++ decimal (c / 4) ++ text "." ++ decimal (c % 4) ++ text ":" ++ decimal (getD work (slotIn c) 0)) []
+
+-- "` left TASK.AGE:WORK ..` for the live jobs after the tick, ascending by task, then age place, or ` left -`"
 unfoldable pub leftText : ℕ → List ℕ → List ℕ
-leftText live work = text " left" ++ orDash (inOrder 16 (workIn live work))
+leftText live work = text " left" ++ orDash (inOrder 64 (workIn live work))
 
 -- "run X finish F", and the work left
 unfoldable pub wentText : Answer → ℕ → List ℕ → List ℕ
@@ -75,10 +81,10 @@ unfoldable pub answerText : Answer → ℕ → List ℕ → List ℕ
 answerText a live work =
     pick (eqb (a .reply .number) 0) (wentText a live work) (pick (eqb (a .reply .number) 34) (missText a live work) (refusalText (a .reply)))
 
--- "tick CLOCK release R ..", where "CLOCK is the clock before the tick"; the live tasks and the work left are those after it
+-- "tick CLOCK release R ..", where "CLOCK is the clock before the tick"; the slots with a live job and the work left are those after it
 unfoldable pub tickLine : ℕ → ℕ → Answer → ℕ → List ℕ → List ℕ
 tickLine clock named a live work = text "tick " ++ decimal clock ++ text " release" ++ numbersIn named ++ answerText a live work ++ newline
 
--- A LINE IN MEMORY: at the front of 640 bytes, with zeros behind it, and its length (`open-most`, `tick-most`, proofs/Length.antt)
+-- A LINE IN MEMORY: at the front of 2,048 bytes, with zeros behind it, and its length (`open-most`, `tick-most`, proofs/Length.antt)
 unfoldable pub lineOf : List ℕ → Line
-lineOf l = record { bytes = l ++ replicate (640 - length l) 0; len = length l }
+lineOf l = record { bytes = l ++ replicate (2048 - length l) 0; len = length l }

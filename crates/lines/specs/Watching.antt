@@ -1,7 +1,7 @@
 -- All that is shown for an input: "the table's length in two bytes little-endian, the table, the starting clock (4 bytes
 -- little-endian), then one release set of two bytes little-endian for each tick until the input ends".
 use mathlib.Core.List.{List, [], _∷_, _++_}
-use Prim.Native.Nat.{ℕ, _+_, _*_}
+use Prim.Native.Nat.{ℕ, _+_, _*_, _/_, _%_}
 use lib.Dec.{eqb}
 use lib.ListN.{getD, take, drop}
 use Rattle.graph.specs.Words.{pick, setOf}
@@ -27,7 +27,7 @@ releaseSets (low ∷ high ∷ s) = (low + 256 * high) ∷ releaseSets s
 
 -- a tick's line, by the state before it and what it gave
 unfoldable pub tickedLine : State → ℕ → Ticked → List ℕ
-tickedLine st named t = tickLine (st .clock) named (t .answer) (setOf 16 (live (t .state))) (t .state .work)
+tickedLine st named t = tickLine (st .clock) named (t .answer) (setOf 64 (λ s. live (t .state) (s % 16) (s / 16))) (t .state .work)
 
 -- a line for each tick, from a state on
 unfoldable pub ticksText : List ℕ → State → List ℕ → List ℕ

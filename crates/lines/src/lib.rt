@@ -16,7 +16,7 @@ pub use ticking::tick_line;
 
 // A line's text, at the front of its bytes, and how long it is.
 pub struct Line {
-    pub bytes: [u8; 640],
+    pub bytes: [u8; 2048],
     pub len: usize,
 }
 

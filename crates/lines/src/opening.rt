@@ -45,7 +45,7 @@ fn first_line(bytes: &[u8], out: &mut [u8], clock: u32) -> usize
 pub fn open_line(bytes: &[u8], clock: u32) -> Line
     ensures { λ r. ⌜ r ≡ lineOf (openLine (now (bytes .entry)) clock) ⌝ }
 {
-    let mut out = [0u8; 640];
+    let mut out = [0u8; 2048];
     let len = first_line(bytes, &mut out, clock);
     Line {
         bytes: out,

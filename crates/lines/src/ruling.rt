@@ -61,7 +61,7 @@ fn line(out: &mut [u8], r: Ruling) -> usize
 pub fn ruling_line(r: Ruling) -> Line
     ensures { λ l. ⌜ l ≡ lineOf (rulingLine r) ⌝ }
 {
-    let mut out = [0u8; 640];
+    let mut out = [0u8; 2048];
     let len = line(&mut out, r);
     Line {
         bytes: out,

@@ -55,7 +55,7 @@ pub fn show_tick(bytes: &[u8], st: State, releases: u16) -> Shown
     let answer = t.answer;
     let reply = answer.reply;
     let state = t.state;
-    let live = machine::live_set(state);
+    let live = machine::live_slots(state);
     let work = state.work;
     let line = ticking::tick_line(st.clock, releases, answer, live, work);
     Shown {

@@ -20,18 +20,18 @@ fn named(out: &mut [u8], at: usize, label: &[u8], set: u16) -> usize
 }
 
 // The work left of each live job.
-fn left(out: &mut [u8], at: usize, live: u16, work: [u64; 16]) -> usize
-    requires { ⌜ at ≤ 2380 ⌝ }
-    ensures { λ r. ⌜ Put (now (out .entry)) at (leftText live work) (now (out .exit)) r × (r ≤ at + 1320) ⌝ }
+fn left(out: &mut [u8], at: usize, live: u64, work: [u64; 64]) -> usize
+    requires { ⌜ at ≤ 3000 ⌝ }
+    ensures { λ r. ⌜ Put (now (out .entry)) at (leftText live work) (now (out .exit)) r × (r ≤ at + 7720) ⌝ }
 {
     let p = parts::words(&mut *out, at, b" left");
     parts::works(&mut *out, p, live, work)
 }
 
 // The vertices that ran, the tasks finished and the work left.
-fn went(out: &mut [u8], at: usize, a: Answer, live: u16, work: [u64; 16]) -> usize
+fn went(out: &mut [u8], at: usize, a: Answer, live: u64, work: [u64; 64]) -> usize
     requires { ⌜ at ≤ 1000 ⌝ }
-    ensures { λ r. ⌜ Put (now (out .entry)) at (wentText a live work) (now (out .exit)) r × (r ≤ at + 2680) ⌝ }
+    ensures { λ r. ⌜ Put (now (out .entry)) at (wentText a live work) (now (out .exit)) r × (r ≤ at + 9400) ⌝ }
 {
     let p = parts::words(&mut *out, at, b" run");
     let ran = a.ran;
@@ -53,9 +53,9 @@ fn refusal(out: &mut [u8], at: usize, reply: Reply) -> usize
 }
 
 // What the machine answered.
-fn answered(out: &mut [u8], at: usize, a: Answer, live: u16, work: [u64; 16]) -> usize
+fn answered(out: &mut [u8], at: usize, a: Answer, live: u64, work: [u64; 64]) -> usize
     requires { ⌜ at ≤ 1000 ⌝ }
-    ensures { λ r. ⌜ Put (now (out .entry)) at (answerText a live work) (now (out .exit)) r × (r ≤ at + 2720) ⌝ }
+    ensures { λ r. ⌜ Put (now (out .entry)) at (answerText a live work) (now (out .exit)) r × (r ≤ at + 9440) ⌝ }
 {
     let reply = a.reply;
     if reply.number == 0 {
@@ -69,7 +69,7 @@ fn answered(out: &mut [u8], at: usize, a: Answer, live: u16, work: [u64; 16]) ->
 }
 
 // The line into a lent buffer; its length.
-fn line(out: &mut [u8], clock: u32, releases: u16, a: Answer, live: u16, work: [u64; 16]) -> usize
+fn line(out: &mut [u8], clock: u32, releases: u16, a: Answer, live: u64, work: [u64; 64]) -> usize
     ensures { λ r. ⌜ Put (now (out .entry)) 0 (tickLine clock releases a live work) (now (out .exit)) r ⌝ }
 {
     let p = parts::labelled(&mut *out, 0, b"tick ", clock as u64);
@@ -78,11 +78,11 @@ fn line(out: &mut [u8], clock: u32, releases: u16, a: Answer, live: u16, work: [
     parts::ended(&mut *out, r)
 }
 
-// The line of a tick that began at a clock; the live tasks and the row of work left are those after it.
-pub fn tick_line(clock: u32, releases: u16, a: Answer, live: u16, work: [u64; 16]) -> Line
+// The line of a tick that began at a clock; the slots with a live job and the row of work left are those after it.
+pub fn tick_line(clock: u32, releases: u16, a: Answer, live: u64, work: [u64; 64]) -> Line
     ensures { λ r. ⌜ r ≡ lineOf (tickLine clock releases a live work) ⌝ }
 {
-    let mut out = [0u8; 640];
+    let mut out = [0u8; 2048];
     let len = line(&mut out, clock, releases, a, live, work);
     Line {
         bytes: out,

@@ -1,5 +1,5 @@
 -- The tick case by case, for every table, every state, every release set and every way to choose: its refusals in their order, then
--- steps 4 to 6.
+-- steps 4 to 6. Each of its tests passes or fails, and that decides the case.
 use mathlib.Core.Path.{_≡_, refl, _∙_}
 use mathlib.Core.Logic.{⊎-elim}
 use mathlib.Core.Bool.{Bool, true, false, _&&_, not}

@@ -1,155 +1,205 @@
--- What each clause of fitting says, and that a task of which it holds passes it.
+-- What each clause of fitting says, and that a task of which it holds passes it. Each clause is a test of finitely many numbers, so it passes just
+-- if each of them is as it says.
 use mathlib.Core.Path.{_≡_, refl, sym, ap, _∙_}
 use mathlib.Core.Bool.{Bool, true, false, _&&_, _||_, not}
 use Prim.Native.Nat.{ℕ, _+_, _-_, _≤_, _<_}
 use native.Mathlib.Omega.{arith}
-use native.Mathlib.Decide.{decLt}
+use native.Mathlib.Decide.{decLt, ℕ-discrete}
 use lib.Dec.{ltb, leb, eqb}
-use borrow.Author.Tests.{lt-ltb, le-ltb, le-leb, eq-eqb, ltb-true, leb-true, eqb-true, not-true}
-use Rattle.graph.specs.Words.{pick, sum, all}
-use Rattle.graph.proofs.Facts.{clash, both-true, and-true, all-at, all-of}
+use borrow.Author.Tests.{lt-ltb, le-ltb, le-leb, eq-eqb, ne-eqb, ltb-true, leb-true, eqb-true, not-true}
+use Rattle.graph.specs.Words.{flag, pick, sum, all}
+use Rattle.graph.proofs.Facts.{clash, both-true, and-true, all-at, all-of, sum-le}
 use Rattle.table.specs.declared.Table.{Table}
 use Rattle.table.specs.Memory.{vertices, D, T, cost}
 use Rattle.machine.specs.declared.Phase.{Phase}
 use Rattle.machine.specs.declared.Phase.the-variants.{Running, Stopped}
 use Rattle.machine.specs.declared.State.{State}
-use Rattle.machine.specs.States.{live, wait, remaining, workOf, left}
-use Rattle.machine.specs.Steps.{clear, nothingLeft}
-use Rattle.machine.specs.Fitting.{workAgrees, zeroTaskIn, withinCost, wholeBehind, fitsLive, fitsIdle, fitsTask, fitsPhase, fits}
+use Rattle.machine.specs.States.{live, wait, jobsOf, remaining, workOf, left}
+use Rattle.machine.specs.Steps.{clear}
+use Rattle.machine.specs.Fitting.{withinCost, nothingLeft, wholeBehind, workAgrees, fitsJob, zeroPlace, fitsPlace, spaced, fitsWait, fitsUsed, zeroTaskIn, fitsTask, fitsPhase, fits}
 
--- "each live task has ticks left from 1 to D minus 1, wait equal to T minus D plus ticks left, no remaining above its cost, some
--- remaining above 0", and "a vertex with a predecessor not done still has its whole cost"
-pub record LiveFits (t : Table) (st : State) (i : ℕ) : Type 0 where
-  pub ahead : 1 ≤ left st i
-  pub soon : left st i ≤ D t i - 1
-  pub waits : wait st i ≡ T t i - D t i + left st i
-  pub within : (u : ℕ) → u < 16 → u < vertices t i → remaining st i u ≤ cost t i u
-  pub spare : (u : ℕ) → u < 16 → vertices t i ≤ u → remaining st i u ≡ 0
-  pub some : nothingLeft st i ≡ false
-  pub behind : (u : ℕ) → u < vertices t i → clear t st i u ≡ false → remaining st i u ≡ cost t i u
+-- ---- how many jobs there are: at most four, one a place
+one-flag : (b : Bool) → flag b ≤ 1
+unfolding flag
+one-flag true = omega arith
+one-flag false = omega arith
 
--- "each idle task has remainings 0 and wait below T"
-pub record IdleFits (t : Table) (st : State) (i : ℕ) : Type 0 where
-  pub none : nothingLeft st i ≡ true
+pub jobs-four : (st : State) (i : ℕ) → jobsOf st i ≤ 4
+unfolding jobsOf sum
+jobs-four st i = sum-le 4 (λ p. flag (live st i p)) (λ p. 1) (λ p b. one-flag (live st i p))
+
+-- ---- the clauses
+-- "ticks left from 1 to D minus 1", "no remaining above its cost, some remaining above 0", "a vertex with a predecessor not done still has its whole
+-- cost", and the stored work is what remains
+pub record JobFits (t : Table) (st : State) (i p : ℕ) : Type 0 where
+  pub ahead : 1 ≤ left st i p
+  pub soon : left st i p ≤ D t i - 1
+  pub within : (u : ℕ) → u < 16 → u < vertices t i → remaining st i p u ≤ cost t i u
+  pub spare : (u : ℕ) → u < 16 → vertices t i ≤ u → remaining st i p u ≡ 0
+  pub some : nothingLeft st i p ≡ false
+  pub behind : (u : ℕ) → u < vertices t i → clear t st i p u ≡ false → remaining st i p u ≡ cost t i u
+  pub works : workOf st i p ≡ sum 16 (remaining st i p)
+
+-- a place without a job
+pub record ZeroPlace (st : State) (i p : ℕ) : Type 0 where
+  pub idles : live st i p ≡ false
+  pub no-work : workOf st i p ≡ 0
+  pub none : nothingLeft st i p ≡ true
+
+-- "jobs are kept oldest first, each next deadline at least T ticks after the one before, the wait is below T and, while any is live, at least T minus
+-- D plus the newest one's ticks left"
+pub record UsedFits (t : Table) (st : State) (i : ℕ) : Type 0 where
+  pub lives : (p : ℕ) → p < jobsOf st i → live st i p ≡ true
+  pub jobs : (p : ℕ) → p < jobsOf st i → JobFits t st i p
+  pub others : (p : ℕ) → jobsOf st i ≤ p → p < 4 → ZeroPlace st i p
+  pub apart : (p : ℕ) → p + 1 < jobsOf st i → left st i p + T t i ≤ left st i (p + 1)
   pub short : wait st i < T t i
+  pub waits : 1 ≤ jobsOf st i → T t i + left st i (jobsOf st i - 1) ≤ wait st i + D t i
 
 -- "a task of zeros is idle with wait 0"
 pub record ZeroTask (st : State) (i : ℕ) : Type 0 where
-  pub idles : live st i ≡ false
   pub no-wait : wait st i ≡ 0
-  pub no-work : workOf st i ≡ 0
-  pub none : nothingLeft st i ≡ true
+  pub others : (p : ℕ) → p < 4 → ZeroPlace st i p
 
-either : (a b : Bool) → a || b ≡ true → a ≡ false → b ≡ true
+pub either : (a b : Bool) → a || b ≡ true → a ≡ false → b ≡ true
 either true b h e = absurd (clash refl e)
 either false b h e = h
 
-module _ (t : Table) (st : State) (i : ℕ) where
-  within-cost : withinCost t st i ≡ true → (u : ℕ) → u < 16 → u < vertices t i → remaining st i u ≤ cost t i u
-  unfolding withinCost
-  within-cost h u b l = leb-true (remaining st i u) (cost t i u) (rw (lt-ltb u (vertices t i) l) at (all-at 16 _ h u b))
+flip : {c : Bool} → c ≡ false → not c ≡ true
+flip h = rw h refl
 
-  spare-zero : withinCost t st i ≡ true → (u : ℕ) → u < 16 → vertices t i ≤ u → remaining st i u ≡ 0
+-- ---- of a job
+module _ (t : Table) (st : State) (i p : ℕ) where
+  within-cost : withinCost t st i p ≡ true → (u : ℕ) → u < 16 → u < vertices t i → remaining st i p u ≤ cost t i u
   unfolding withinCost
-  spare-zero h u b l = eqb-true (remaining st i u) 0 (rw (le-ltb u (vertices t i) l) at (all-at 16 _ h u b))
+  within-cost h u b l = leb-true (remaining st i p u) (cost t i u) (rw (lt-ltb u (vertices t i) l) at (all-at 16 _ h u b))
 
-  whole-behind : wholeBehind t st i ≡ true → (u : ℕ) → u < vertices t i → clear t st i u ≡ false → remaining st i u ≡ cost t i u
+  spare-zero : withinCost t st i p ≡ true → (u : ℕ) → u < 16 → vertices t i ≤ u → remaining st i p u ≡ 0
+  unfolding withinCost
+  spare-zero h u b l = eqb-true (remaining st i p u) 0 (rw (le-ltb u (vertices t i) l) at (all-at 16 _ h u b))
+
+  whole-behind : wholeBehind t st i p ≡ true → (u : ℕ) → u < vertices t i → clear t st i p u ≡ false → remaining st i p u ≡ cost t i u
   unfolding wholeBehind
-  whole-behind h u b e = eqb-true (remaining st i u) (cost t i u) (either (clear t st i u) _ (all-at (vertices t i) _ h u b) e)
+  whole-behind h u b e = eqb-true (remaining st i p u) (cost t i u) (either (clear t st i p u) _ (all-at (vertices t i) _ h u b) e)
 
-  pub live-fits : fitsLive t st i ≡ true → LiveFits t st i
-  unfolding fitsLive
-  live-fits h =
-      let a₁ = both-true _ (wholeBehind t st i) h in
-      let a₂ = both-true _ (not (nothingLeft st i)) (a₁ .0) in
-      let a₃ = both-true _ (withinCost t st i) (a₂ .0) in
-      let a₄ = both-true _ (eqb (wait st i) (T t i - D t i + left st i)) (a₃ .0) in
-      let a₅ = both-true (leb 1 (left st i)) (leb (left st i) (D t i - 1)) (a₄ .0) in
+  pub job-fits : fitsJob t st i p ≡ true → JobFits t st i p
+  unfolding fitsJob workAgrees
+  job-fits h =
+      let a₁ = both-true _ (workAgrees st i p) h in
+      let a₂ = both-true _ (wholeBehind t st i p) (a₁ .0) in
+      let a₃ = both-true _ (not (nothingLeft st i p)) (a₂ .0) in
+      let a₄ = both-true _ (withinCost t st i p) (a₃ .0) in
+      let a₅ = both-true (leb 1 (left st i p)) (leb (left st i p) (D t i - 1)) (a₄ .0) in
       record {
-        ahead = leb-true 1 (left st i) (a₅ .0);
-        soon = leb-true (left st i) (D t i - 1) (a₅ .1);
-        waits = eqb-true (wait st i) (T t i - D t i + left st i) (a₄ .1);
-        within = within-cost (a₃ .1);
-        spare = spare-zero (a₃ .1);
-        some = not-true (nothingLeft st i) (a₂ .1);
-        behind = whole-behind (a₁ .1);
+        ahead = leb-true 1 (left st i p) (a₅ .0);
+        soon = leb-true (left st i p) (D t i - 1) (a₅ .1);
+        within = within-cost (a₄ .1);
+        spare = spare-zero (a₄ .1);
+        some = not-true (nothingLeft st i p) (a₃ .1);
+        behind = whole-behind (a₂ .1);
+        works = eqb-true (workOf st i p) (sum 16 (remaining st i p)) (a₁ .1);
       }
 
-  idle-fits : fitsIdle t st i ≡ true → IdleFits t st i
-  unfolding fitsIdle
-  idle-fits h =
-      let a = both-true (nothingLeft st i) (ltb (wait st i) (T t i)) h in
-      record { none = a .0; short = ltb-true (wait st i) (T t i) (a .1) }
-
-  zero-task : zeroTaskIn st i ≡ true → ZeroTask st i
-  unfolding zeroTaskIn
-  zero-task h =
-      let a = both-true (not (live st i) && eqb (wait st i) 0 && eqb (workOf st i) 0) (nothingLeft st i) h in
-      let w = both-true (not (live st i) && eqb (wait st i) 0) (eqb (workOf st i) 0) (a .0) in
-      let b = both-true (not (live st i)) (eqb (wait st i) 0) (w .0) in
-      record { idles = not-true (live st i) (b .0); no-wait = eqb-true (wait st i) 0 (b .1); no-work = eqb-true (workOf st i) 0 (w .1); none = a .1 }
-
--- ---- and the reverse
-module _ (t : Table) (st : State) (i : ℕ) where
-  flip : {c : Bool} → c ≡ false → not c ≡ true
-  flip h = rw h refl
-
-  pub within-of : LiveFits t st i → withinCost t st i ≡ true
+  within-of : JobFits t st i p → withinCost t st i p ≡ true
   unfolding withinCost
   within-of f = all-of 16 _ (λ u b. go u b (decLt u (vertices t i)))
     where
-      go : (u : ℕ) → u < 16 → Dec (u < vertices t i) → pick (ltb u (vertices t i)) (leb (remaining st i u) (cost t i u)) (eqb (remaining st i u) 0) ≡ true
-      go u b (yes l) = rw (lt-ltb u (vertices t i) l) (le-leb (remaining st i u) (cost t i u) (f .within u b l))
-      go u b (no l) = rw (le-ltb u (vertices t i) (omega arith)) (eq-eqb (remaining st i u) 0 (f .spare u b (omega arith)))
+      go : (u : ℕ) → u < 16 → Dec (u < vertices t i) → pick (ltb u (vertices t i)) (leb (remaining st i p u) (cost t i u)) (eqb (remaining st i p u) 0) ≡ true
+      go u b (yes l) = rw (lt-ltb u (vertices t i) l) (le-leb (remaining st i p u) (cost t i u) (f .within u b l))
+      go u b (no l) = rw (le-ltb u (vertices t i) (omega arith)) (eq-eqb (remaining st i p u) 0 (f .spare u b (omega arith)))
 
-  whole-of : LiveFits t st i → wholeBehind t st i ≡ true
+  whole-of : JobFits t st i p → wholeBehind t st i p ≡ true
   unfolding wholeBehind
-  whole-of f = all-of (vertices t i) _ (λ u l. go u l (clear t st i u) refl)
+  whole-of f = all-of (vertices t i) _ (λ u l. go u l (clear t st i p u) refl)
     where
-      go : (u : ℕ) → u < vertices t i → (c : Bool) → clear t st i u ≡ c → c || eqb (remaining st i u) (cost t i u) ≡ true
+      go : (u : ℕ) → u < vertices t i → (c : Bool) → clear t st i p u ≡ c → c || eqb (remaining st i p u) (cost t i u) ≡ true
       go u l true q = refl
-      go u l false q = eq-eqb (remaining st i u) (cost t i u) (f .behind u l q)
+      go u l false q = eq-eqb (remaining st i p u) (cost t i u) (f .behind u l q)
 
-  pub of-live : LiveFits t st i → fitsLive t st i ≡ true
-  unfolding fitsLive
-  of-live f =
+  pub of-job : JobFits t st i p → fitsJob t st i p ≡ true
+  unfolding fitsJob workAgrees
+  of-job f =
       and-true _ _ (and-true _ _ (and-true _ _ (and-true _ _ (and-true _ _
-      (le-leb 1 (left st i) (f .ahead)) (le-leb (left st i) (D t i - 1) (f .soon)))
-      (eq-eqb (wait st i) (T t i - D t i + left st i) (f .waits)))
-      (within-of f)) (flip (f .some))) (whole-of f)
+      (le-leb 1 (left st i p) (f .ahead)) (le-leb (left st i p) (D t i - 1) (f .soon)))
+      (within-of f)) (flip (f .some))) (whole-of f))
+      (eq-eqb (workOf st i p) (sum 16 (remaining st i p)) (f .works))
 
-  pub of-idle : IdleFits t st i → fitsIdle t st i ≡ true
-  unfolding fitsIdle
-  of-idle f = and-true _ _ (f .none) (lt-ltb (wait st i) (T t i) (f .short))
+-- ---- of a place without one
+module _ (st : State) (i p : ℕ) where
+  pub zero-place : zeroPlace st i p ≡ true → ZeroPlace st i p
+  unfolding zeroPlace
+  zero-place h =
+      let a = both-true (not (live st i p) && eqb (workOf st i p) 0) (nothingLeft st i p) h in
+      let b = both-true (not (live st i p)) (eqb (workOf st i p) 0) (a .0) in
+      record { idles = not-true (live st i p) (b .0); no-work = eqb-true (workOf st i p) 0 (b .1); none = a .1 }
+
+  pub of-place : ZeroPlace st i p → zeroPlace st i p ≡ true
+  unfolding zeroPlace
+  of-place f = and-true _ _ (and-true _ _ (flip (f .idles)) (eq-eqb (workOf st i p) 0 (f .no-work))) (f .none)
+
+-- ---- of a task
+module _ (st : State) (i : ℕ) where
+  pub zero-task : zeroTaskIn st i ≡ true → ZeroTask st i
+  unfolding zeroTaskIn
+  zero-task h =
+      let a = both-true (eqb (wait st i) 0) (all 4 (zeroPlace st i)) h in
+      record { no-wait = eqb-true (wait st i) 0 (a .0); others = λ p b. zero-place st i p (all-at 4 (zeroPlace st i) (a .1) p b) }
 
   pub of-zero : ZeroTask st i → zeroTaskIn st i ≡ true
   unfolding zeroTaskIn
-  of-zero f = and-true _ _ (and-true _ _ (and-true _ _ (flip (f .idles)) (eq-eqb (wait st i) 0 (f .no-wait))) (eq-eqb (workOf st i) 0 (f .no-work))) (f .none)
+  of-zero f = and-true _ _ (eq-eqb (wait st i) 0 (f .no-wait)) (all-of 4 (zeroPlace st i) (λ p b. of-place st i p (f .others p b)))
 
--- EACH TASK OF A STATE THAT FITS: a running one, live or idle or not used; a stopped one
+module _ (t : Table) (st : State) (i : ℕ) where
+  pub used-fits : fitsUsed t st i ≡ true → UsedFits t st i
+  unfolding fitsUsed fitsPlace spaced fitsWait
+  used-fits h =
+      let a = both-true (all 4 (fitsPlace t st i) && spaced t st i) (fitsWait t st i) h in
+      let b = both-true (all 4 (fitsPlace t st i)) (spaced t st i) (a .0) in
+      let w = both-true (ltb (wait st i) (T t i)) _ (a .1) in
+      let four = jobs-four st i in
+      record {
+        lives = λ p l. job p l (all-at 4 (fitsPlace t st i) (b .0) p (omega arith)) .0;
+        jobs = λ p l. job-fits t st i p (job p l (all-at 4 (fitsPlace t st i) (b .0) p (omega arith)) .1);
+        others = λ p l k. zero-place st i p (rw (le-ltb p (jobsOf st i) l) at (all-at 4 (fitsPlace t st i) (b .0) p k));
+        apart = λ p l. leb-true _ _ (all-at (jobsOf st i - 1) _ (b .1) p (omega arith));
+        short = ltb-true (wait st i) (T t i) (w .0);
+        waits = λ l. leb-true _ _ (either (eqb (jobsOf st i) 0) _ (w .1) (ne-eqb (jobsOf st i) 0 (λ z. omega arith)));
+      }
+    where
+      job : (p : ℕ) → p < jobsOf st i → pick (ltb p (jobsOf st i)) (live st i p && fitsJob t st i p) (zeroPlace st i p) ≡ true
+          → (live st i p ≡ true) × (fitsJob t st i p ≡ true)
+      job p l e = both-true (live st i p) (fitsJob t st i p) (rw (lt-ltb p (jobsOf st i) l) at e)
+
+  pub of-used : UsedFits t st i → fitsUsed t st i ≡ true
+  unfolding fitsUsed fitsPlace spaced fitsWait
+  of-used f =
+      and-true _ _ (and-true _ _
+      (all-of 4 (fitsPlace t st i) (λ p b. place p b (decLt p (jobsOf st i))))
+      (all-of (jobsOf st i - 1) _ (λ p b. le-leb _ _ (f .apart p (omega arith)))))
+      (and-true _ _ (lt-ltb (wait st i) (T t i) (f .short)) (bound (ℕ-discrete (jobsOf st i) 0)))
+    where
+      place : (p : ℕ) → p < 4 → Dec (p < jobsOf st i) → pick (ltb p (jobsOf st i)) (live st i p && fitsJob t st i p) (zeroPlace st i p) ≡ true
+      place p b (yes l) = rw (lt-ltb p (jobsOf st i) l) (and-true _ _ (f .lives p l) (of-job t st i p (f .jobs p l)))
+      place p b (no l) = rw (le-ltb p (jobsOf st i) (omega arith)) (of-place st i p (f .others p (omega arith) b))
+
+      bound : Dec (jobsOf st i ≡ 0) → eqb (jobsOf st i) 0 || leb (T t i + left st i (jobsOf st i - 1)) (wait st i + D t i) ≡ true
+      bound (yes z) = rw (eq-eqb (jobsOf st i) 0 z) refl
+      bound (no z) = rw (ne-eqb (jobsOf st i) 0 z) (le-leb _ _ (f .waits (omega arith)))
+
+-- EACH TASK OF A STATE THAT FITS: a running one, used or not; a stopped one
 module _ (t : Table) (st : State) (fitting : fits t st ≡ true) where
   module _ (running : st .phase ≡ Running) (i : ℕ) (sixteen : i < 16) where
     its-fits : fitsTask t st i ≡ true
     unfolding fits fitsPhase
     its-fits = all-at 16 (fitsTask t st) (sym (ap (λ (p : Phase). fitsPhase p t st) running) ∙ fitting) i sixteen
 
-    its-clauses : (workAgrees st i ≡ true) × (pick (ltb i (t .n)) (pick (live st i) (fitsLive t st i) (fitsIdle t st i)) (zeroTaskIn st i) ≡ true)
+    pub used-task : i < t .n → UsedFits t st i
     unfolding fitsTask
-    its-clauses = both-true (workAgrees st i) _ its-fits
-
-    -- used or not
-    pub task-work : workOf st i ≡ sum 16 (remaining st i)
-    unfolding workAgrees
-    task-work = eqb-true (workOf st i) (sum 16 (remaining st i)) (its-clauses .0)
-
-    pub live-task : i < t .n → live st i ≡ true → LiveFits t st i
-    live-task b e = live-fits t st i (rw (lt-ltb i (t .n) b, e) at its-clauses .1)
-
-    pub idle-task : i < t .n → live st i ≡ false → IdleFits t st i
-    idle-task b e = idle-fits t st i (rw (lt-ltb i (t .n) b, e) at its-clauses .1)
+    used-task b = used-fits t st i (rw (lt-ltb i (t .n) b) at its-fits)
 
     pub unused-task : t .n ≤ i → ZeroTask st i
-    unused-task b = zero-task t st i (rw (le-ltb i (t .n) b) at its-clauses .1)
+    unfolding fitsTask
+    unused-task b = zero-task st i (rw (le-ltb i (t .n) b) at its-fits)
 
   module _ (k : ℕ) (stopped : st .phase ≡ Stopped k) where
     at-task : (k < t .n) × (all 16 (zeroTaskIn st) ≡ true)
@@ -162,4 +212,4 @@ module _ (t : Table) (st : State) (fitting : fits t st ≡ true) where
     stopped-below = at-task .0
 
     pub stopped-zero : (i : ℕ) → i < 16 → ZeroTask st i
-    stopped-zero i b = zero-task t st i (all-at 16 (zeroTaskIn st) (at-task .1) i b)
+    stopped-zero i b = zero-task st i (all-at 16 (zeroTaskIn st) (at-task .1) i b)

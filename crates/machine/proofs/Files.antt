@@ -1,4 +1,4 @@
--- The same of a file's bytes: what opening and ticks give from a file that is read fits its table.
+-- The same of a file's bytes: what opening and ticks give from a file that is read fits its table, for a table that is read is good.
 use mathlib.Core.Path.{_≡_, refl, sym, ap, subst, _∙_}
 use mathlib.Core.Bool.{true}
 use mathlib.Core.List.{List}

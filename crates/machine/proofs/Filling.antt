@@ -1,13 +1,14 @@
 -- A row that a loop fills, entry by entry: up to where it has come it is as the definition says, from there on as it was.
 use mathlib.Core.Path.{_≡_, refl, sym, ap, _∙_}
+use mathlib.Core.Bool.{Bool}
 use mathlib.Core.List.{List, map}
-use Prim.Native.Nat.{ℕ, zero, suc, _+_, _≤_, _<_}
+use Prim.Native.Nat.{ℕ, zero, suc, _+_, _^_, _≤_, _<_}
 use native.Mathlib.Omega.{arith}
 use native.Mathlib.Decide.{ℕ-discrete}
 use lib.ListN.{length, getD, set, length-set, length-map, replicate}
 use lib.Seq.{ext-getD, getD-set-same, getD-set-other}
-use Rattle.graph.specs.Words.{row}
-use Rattle.graph.proofs.Facts.{length-row, row-at}
+use Rattle.graph.specs.Words.{pick, row, setOf}
+use Rattle.graph.proofs.Facts.{sum-same, length-row, row-at}
 
 -- what owning an array of structs tells of its list
 pub length-mapped : (X Y : Type 0) (f : X → Y) (l : List X) (n : ℕ) → length (map f l) ≡ n → length l ≡ n
@@ -29,6 +30,15 @@ same-throughout (suc n) (suc i) d = same-throughout n i d
 pub row-same {ℓ} : {X : Type ℓ} (n : ℕ) (d : X) (f : ℕ → X) (l : List X) → length l ≡ n → ((k : ℕ) → k < n → f k ≡ getD l k d) → row n f ≡ l
 row-same n d f l e h = ext-getD d (row n f) l (length-row n f ∙ sym e)
     (λ k b. let c : k < n = omega (arith, length-row n f) in row-at n f k d c ∙ h k c)
+
+-- rows that agree by number are equal
+pub row-ext {ℓ} : {X : Type ℓ} (n : ℕ) (d : X) (f g : ℕ → X) → ((k : ℕ) → k < n → f k ≡ g k) → row n f ≡ row n g
+row-ext n d f g h = row-same n d f (row n g) (length-row n g) (λ k b. h k b ∙ sym (row-at n g k d b))
+
+-- and so are sets
+pub set-ext : (n : ℕ) (p q : ℕ → Bool) → ((k : ℕ) → k < n → p k ≡ q k) → setOf n p ≡ setOf n q
+unfolding setOf
+set-ext n p q h = sum-same n _ _ (λ k b. ap (λ (c : Bool). pick c (2 ^ k) 0) (h k b))
 
 module _ {ℓ} {X : Type ℓ} (n : ℕ) (d : X) (f : ℕ → X) (before : List X) where
   pub filled-none : length before ≡ n → Filled n d f before 0 before

@@ -1,22 +1,26 @@
--- The rules of a state that fits say of a good table's task what the crate fitness says of its numbers.
-use mathlib.Core.Path.{_≡_, refl, sym, ap, _∙_}
-use Prim.Native.Nat.{ℕ, _+_, _-_, _≤_, _<_}
+-- WHICH STATES FIT, BY ROWS: the rules of specs/Rows.antt, slot by slot, say of a state taken apart what specs/Fitting.antt says of it.
+use mathlib.Core.Path.{_≡_, refl, sym, ap, fun-ext, _∙_}
+use mathlib.Core.Bool.{Bool, true, false, _&&_, _||_, not}
+use mathlib.Core.List.{List}
+use Prim.Native.Nat.{ℕ, zero, suc, _+_, _*_, _-_, _/_, _%_, _≤_, _<_}
 use native.Mathlib.Omega.{arith}
-use native.Mathlib.Decide.{ℕ-discrete, decLt}
 use native.Mathlib.Nat.{min-eq-left}
+use native.Mathlib.Decide.{ℕ-discrete, decLt}
+use lib.ListN.{getD}
 use lib.Dec.{ltb, leb, eqb}
-use borrow.Author.Tests.{lt-ltb, le-ltb, le-leb, lt-leb, eq-eqb, ne-eqb}
-use Rattle.graph.specs.Words.{pick}
+use borrow.Author.Tests.{lt-ltb, le-ltb, le-leb, lt-leb, eq-eqb, ne-eqb, eqb-true}
+use Rattle.graph.specs.Words.{pick, sum, all}
+use Rattle.graph.proofs.Facts.{all-same}
 use Rattle.table.specs.declared.Table.{Table}
 use Rattle.table.specs.Memory.{task, vertices, D, T, succ, edgeIn, cost}
 use Rattle.table.specs.Good.{GoodTask, GoodTable}
-use Rattle.fitness.specs.Fitness as fitness
-use Rattle.fitness.proofs.Behind.{all-same}
-use Rattle.fitness.proofs.Cases as cases
+use Rattle.slots.specs.Slots as slots
+use Rattle.slots.proofs.Cases as cases
+use Rattle.slots.proofs.Cases.{sum-zero}
 use Rattle.machine.specs.declared.State.{State}
-use Rattle.machine.specs.States.{live, wait, remaining, workOf, left}
-use Rattle.machine.specs.Steps.{clear, nothingLeft}
-use Rattle.machine.specs.Fitting.{workAgrees, zeroTaskIn, withinCost, wholeBehind, fitsLive, fitsIdle, fitsTask}
+use Rattle.machine.specs.States.{live, remaining, workOf, left}
+use Rattle.machine.specs.Steps.{clear}
+use Rattle.machine.specs.Fitting.{withinCost, nothingLeft, wholeBehind, workAgrees, fitsJob, zeroPlace}
 
 leb-zero : (r : ℕ) → leb r 0 ≡ eqb r 0
 leb-zero r = elim (ℕ-discrete r 0) [
@@ -31,56 +35,85 @@ soon-same l d h = elim (decLt l d) [
   | no b ↦ le-ltb l d (omega arith) ∙ sym (lt-leb l (d - 1) (omega arith))
 ]
 
--- a wait of T minus D plus ticks left
-wait-same : (w l d t : ℕ) → d ≤ t → eqb (w + d) (t + l) ≡ eqb w (t - d + l)
-wait-same w l d t h = elim (ℕ-discrete w (t - d + l)) [
-  | yes e ↦ eq-eqb (w + d) (t + l) (omega arith) ∙ sym (eq-eqb w (t - d + l) e)
-  | no e ↦ ne-eqb (w + d) (t + l) (λ q. e (omega arith)) ∙ sym (ne-eqb w (t - d + l) e)
-]
+-- the clauses in the code's order and in the rule's: where the stored work is the sum, it is 0 exactly if nothing remains
+nothing : (b : Bool) → (b && false) ≡ false
+nothing true = refl
+nothing false = refl
 
--- ---- what remains, and a task of zeros
-module _ (st : State) (i : ℕ) (b : i < 16) where
-  pub none-same : fitness.nothingLeft (st .remaining) i ≡ nothingLeft st i
-  unfolding nothingLeft remaining
-  none-same = sym (cases.none-left (st .remaining) i b)
+shuffle : (x z n w c h : Bool) → (w ≡ true → z ≡ n) → (x && not z && w && c && h) ≡ (x && c && not n && h && w)
+shuffle x z n false c h e = rw (nothing (x && not z), nothing (x && c && not n && h)) refl
+shuffle x z n true c h e = rw (e refl) (go x n c h)
+  where
+    go : (x n c h : Bool) → (x && not n && true && c && h) ≡ (x && c && not n && h && true)
+    go false n c h = refl
+    go true true true h = refl
+    go true true false h = refl
+    go true false true true = refl
+    go true false true false = refl
+    go true false false h = refl
 
-  -- the stored work
-  agrees-same : eqb (workOf st i) (fitness.workLeft (st .remaining) i) ≡ workAgrees st i
-  unfolding workAgrees remaining
-  agrees-same = ap (λ (w : ℕ). eqb (workOf st i) w) (sym (cases.work-sum (st .remaining) i b))
+module _ (st : State) (i p : ℕ) (b : i < 16) (c : p < 4) where
+  abbrev at-slot : ℕ
+  at-slot = 16 * p + i
 
-  -- "a task of zeros is idle with wait 0"
-  pub zero-same : fitness.zeroTask (live st i) (wait st i) (workOf st i) (st .remaining) i ≡ zeroTaskIn st i
-  unfolding fitness.zeroTask zeroTaskIn
+  -- what remains of the slot's vertices is what remains of the job's
+  rests : (λ (u : ℕ). getD (st .remaining) (16 * at-slot + u) 0) ≡ remaining st i p
+  unfolding remaining
+  rests = fun-ext (λ u. let z : 16 * at-slot + u ≡ 256 * p + 16 * i + u = omega arith in ap (λ (k : ℕ). getD (st .remaining) k 0) z)
+
+  none-same : slots.nothingLeft (st .remaining) at-slot ≡ nothingLeft st i p
+  unfolding nothingLeft
+  none-same = sym (cases.none-left (st .remaining) at-slot (omega arith)) ∙ ap (λ (f : ℕ → ℕ). all 16 (λ u. eqb (f u) 0)) rests
+
+  sum-same : slots.workLeft (st .remaining) at-slot ≡ sum 16 (remaining st i p)
+  sum-same = sym (cases.work-sum (st .remaining) at-slot (omega arith)) ∙ ap (sum 16) rests
+
+  agrees-same : eqb (workOf st i p) (slots.workLeft (st .remaining) at-slot) ≡ workAgrees st i p
+  unfolding workAgrees
+  agrees-same = ap (eqb (workOf st i p)) sum-same
+
+  no-work : workAgrees st i p ≡ true → eqb (workOf st i p) 0 ≡ nothingLeft st i p
+  unfolding workAgrees nothingLeft
+  no-work e = ap (λ (w : ℕ). eqb w 0) (eqb-true (workOf st i p) (sum 16 (remaining st i p)) e) ∙ sum-zero 16 (remaining st i p)
+
+  -- a place without a job
+  pub zero-same : slots.zeroPlace (live st i p) (workOf st i p) (st .remaining) at-slot ≡ zeroPlace st i p
+  unfolding slots.zeroPlace zeroPlace
   zero-same = rw none-same refl
 
--- ---- a task of a good table
-module _ (t : Table) (st : State) (i : ℕ) (b : i < 16) (good : GoodTask t i) where
-  within-one : (u : ℕ) → u < 16 → Dec (u < vertices t i)
-      → leb (remaining st i u) (cost t i u) ≡ pick (ltb u (vertices t i)) (leb (remaining st i u) (cost t i u)) (eqb (remaining st i u) 0)
-  within-one u c (yes l) = rw (lt-ltb u (vertices t i) l) refl
-  within-one u c (no l) = rw (le-ltb u (vertices t i) (omega arith), good .unused u (omega arith) c) (leb-zero (remaining st i u))
+  -- ---- a job of a good table's task
+  module _ (t : Table) (good : GoodTask t i) where
+    cost-same : (u : ℕ) → u < 16 → slots.costAt (t .costs) at-slot u ≡ cost t i u
+    unfolding cost
+    cost-same u d = let z : (16 * at-slot + u) % 256 ≡ 16 * i + u = omega arith in ap (λ (k : ℕ). getD (t .costs) k 0) z
 
-  -- "no remaining above its cost", where the cost of a vertex that is not used is 0
-  within-same : fitness.withinCost (t .costs) (st .remaining) i ≡ withinCost t st i
-  unfolding fitness.withinCost withinCost remaining cost
-  within-same = all-same 16 _ _ (λ u c. within-one u c (decLt u (vertices t i)))
+    within-one : (u : ℕ) → u < 16 → Dec (u < vertices t i)
+        → leb (remaining st i p u) (cost t i u) ≡ pick (ltb u (vertices t i)) (leb (remaining st i p u) (cost t i u)) (eqb (remaining st i p u) 0)
+    within-one u d (yes l) = rw (lt-ltb u (vertices t i) l) refl
+    within-one u d (no l) = rw (le-ltb u (vertices t i) (omega arith), good .unused u (omega arith) d) (leb-zero (remaining st i p u))
 
-  -- "a vertex with a predecessor not done still has its whole cost"
-  whole-same : fitness.wholeBehind (task t i) (t .costs) (st .remaining) i ≡ wholeBehind t st i
-  unfolding fitness.wholeBehind fitness.clear wholeBehind clear edgeIn remaining cost vertices succ
-  whole-same = rw (min-eq-left (good .v-high)) refl
+    within-same : slots.withinCost (t .costs) (st .remaining) at-slot ≡ withinCost t st i p
+    unfolding slots.withinCost withinCost
+    within-same =
+        ap (λ (f : ℕ → ℕ). all 16 (λ u. leb (f u) (slots.costAt (t .costs) at-slot u))) rests
+        ∙ all-same 16 _ _ (λ u d. ap (leb (remaining st i p u)) (cost-same u d) ∙ within-one u d (decLt u (vertices t i)))
 
-  live-same : fitness.liveFits (task t i) (t .costs) (left st i) (wait st i) (st .remaining) i ≡ fitsLive t st i
-  unfolding fitness.liveFits fitsLive D T
-  live-same =
-      rw (soon-same (left st i) (D t i) (good .D-low), wait-same (wait st i) (left st i) (D t i) (T t i) (good .D-T), within-same, none-same st i b, whole-same) refl
+    clear-same : (u : ℕ) → slots.clear (task t i) (st .remaining) at-slot u ≡ clear t st i p u
+    unfolding slots.clear clear edgeIn vertices succ
+    clear-same u = rw (min-eq-left (good .v-high), rests) refl
 
--- THE RULES AGREE, of each of a good table's sixteen entries
-pub same-rules : (t : Table) (st : State) → GoodTable t → (i : ℕ) → i < 16
-    → fitness.taskFits (t .n) (task t i) (t .costs) (live st i) (left st i) (wait st i) (workOf st i) (st .remaining) i ≡ fitsTask t st i
-unfolding fitness.taskFits fitsTask fitness.idleFits fitsIdle T
-same-rules t st good i b = elim (decLt i (t .n)) [
-  | yes l ↦ rw (agrees-same st i b, lt-ltb i (t .n) l, live-same t st i b (good .each i l), none-same st i b) refl
-  | no l ↦ rw (agrees-same st i b, le-ltb i (t .n) (omega arith), zero-same st i b) refl
-]
+    whole-same : slots.wholeBehind (task t i) (t .costs) (st .remaining) at-slot ≡ wholeBehind t st i p
+    unfolding slots.wholeBehind wholeBehind vertices
+    whole-same =
+        rw (min-eq-left (good .v-high))
+        (all-same (vertices t i) _ _ (λ u d.
+        ap (λ (x : Bool). x || eqb (getD (st .remaining) (16 * at-slot + u) 0) (slots.costAt (t .costs) at-slot u)) (clear-same u)
+        ∙ ap (λ (f : ℕ → ℕ). clear t st i p u || eqb (f u) (slots.costAt (t .costs) at-slot u)) rests
+        ∙ ap (λ (k : ℕ). clear t st i p u || eqb (remaining st i p u) k) (cost-same u (let h = good .v-high in omega arith))))
+
+    -- THE RULES OF A JOB AGREE
+    pub job-same : slots.jobFits (task t i) (t .costs) (left st i p) (workOf st i p) (st .remaining) at-slot ≡ fitsJob t st i p
+    unfolding slots.jobFits fitsJob D
+    job-same =
+        rw (soon-same (left st i p) (D t i) (good .D-low), agrees-same, within-same, whole-same)
+        (shuffle (leb 1 (left st i p) && leb (left st i p) (D t i - 1)) (eqb (workOf st i p) 0) (nothingLeft st i p) (workAgrees st i p) (withinCost t st i p) (wholeBehind t st i p) no-work)

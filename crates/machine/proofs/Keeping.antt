@@ -1,15 +1,16 @@
--- Opening fits, and a tick keeps a state fitting: for every good table, every state and every legal choice. Of the numbers' types it is
--- needed that the clock and the live jobs' deadlines are below 2 ^ 32 (`InRange`) and the release set below 2 ^ 16.
-use mathlib.Core.Path.{_≡_, refl, sym, subst, _∙_}
+-- Opening fits, and a tick keeps a state fitting: for every good table, every state and every legal choice. A running state that fits stands, a tick that
+-- misses nothing keeps it standing, and one that misses leaves zeros. Of the numbers' types it is needed that the clock and the live jobs' deadlines are
+-- below 2 ^ 32 (`InRange`) and the release set below 2 ^ 16.
+use mathlib.Core.Path.{_≡_, refl, sym, subst}
 use mathlib.Core.Bool.{Bool, true, false, _&&_}
 use mathlib.Core.List.{List}
-use Prim.Native.Nat.{ℕ, _+_, _/_, _%_, _^_, _≤_, _<_}
+use Prim.Native.Nat.{ℕ, _+_, _^_, _≤_, _<_}
 use native.Mathlib.Omega.{arith}
 use native.Mathlib.Decide.{decLt}
-use native.Mathlib.Nat.{div-eq-of-lt}
-use lib.Pow.{pow-mono}
-use borrow.Author.Tests.{lt-ltb, ltb-false, leb-false, eqb-true}
+use lib.Dec.{eqb}
+use borrow.Author.Tests.{lt-ltb, ltb-false, leb-false}
 use Rattle.graph.specs.Words.{bit, isIn}
+use Rattle.graph.proofs.Members.{held-below}
 use Rattle.graph.proofs.Facts.{clash, both-true, and-true, all-of, below-pass}
 use Rattle.table.specs.declared.Table.{Table}
 use Rattle.table.specs.Good.{GoodTable}
@@ -17,31 +18,23 @@ use Rattle.machine.specs.declared.Phase.{Phase}
 use Rattle.machine.specs.declared.Phase.the-variants.{Running, Stopped}
 use Rattle.machine.specs.declared.State.{State}
 use Rattle.machine.specs.declared.Ticked.{Ticked}
-use Rattle.machine.specs.States.{live, wait, deadline, left, zeros}
+use Rattle.machine.specs.States.{live, wait, deadline, jobsOf, left, zeros}
 use Rattle.machine.specs.Steps.{released, available, availables, finished, missed, Legal, ownChoice}
 use Rattle.machine.specs.Fitting.{zeroTaskIn, fitsPhase, fits}
 use Rattle.machine.specs.Ticking.{ticked, refuse, tickOn}
 use Rattle.machine.proofs.Index.{not-missed, wrap-small, zeros-live, zeros-wait, zeros-remaining, zeros-work}
+use Rattle.machine.proofs.Places.{any-place}
+use Rattle.machine.proofs.Clauses.{jobs-four, of-zero}
 use Rattle.machine.proofs.Standing.{is-nothing, Standing, opened-stands, stands-fits}
-use Rattle.machine.proofs.Moving.{mid, next, next-stands, next-live, next-deadline, next-clock, kept-live, unnamed, mid-live}
+use Rattle.machine.proofs.Sound.{Sound, stands-sound}
+use Rattle.machine.proofs.Within.{mid, mid-going}
+use Rattle.machine.proofs.Moving.{ran, next, from, next-stands, next-lives, next-deadline, next-clock, next-past, from-below, none-unused}
 use Rattle.machine.proofs.Own.{own-legal}
 use Rattle.machine.proofs.Lowest.{Lowest, None}
 use Rattle.machine.proofs.Cases.{beyond, tooSoon, chosenIn, afterWork, afterEnds, Admitted, Case, unfit, halted, no-task, early, misses, goes-on, cases, running-stopped}
 use Rattle.machine.proofs.Fitted.{InRange, fits-stands}
 
 -- ---- small facts
--- a release set of sixteen bits names none past them
-pub bit-below : (x i : ℕ) → x < 2 ^ 16 → bit x i ≡ true → i < 16
-unfolding bit
-bit-below x i b h = elim (decLt i 16) [
-  | yes l ↦ l
-  | no l ↦
-      let p : 2 ^ 16 ≤ 2 ^ i = pow-mono {i = 16} (omega arith) in
-      let z : x / 2 ^ i ≡ 0 = div-eq-of-lt (omega arith) in
-      let o = eqb-true (x / 2 ^ i % 2) 1 h in
-      absurd (omega arith)
-]
-
 and-false : (a b : Bool) → a && b ≡ false → a ≡ true → b ≡ false
 and-false true b h e = h
 and-false false b h e = absurd (clash e refl)
@@ -49,19 +42,22 @@ and-false false b h e = absurd (clash e refl)
 -- ---- states whose numbers are in range
 pub zeros-range : (c : ℕ) (p : Phase) → c < 2 ^ 32 → InRange (zeros c p)
 unfolding zeros
-zeros-range c p h = record { clock = h; deadlines = λ i b e. absurd (clash e (zeros-live c p i)) }
+zeros-range c p h = record { clock = h; deadlines = λ i q b l e. absurd (clash e (zeros-live c p i q)) }
 
 stands-range : (t : Table) (st : State) → Standing t st → InRange st
-stands-range t st s = record { clock = s .clock; deadlines = λ i b e. go i b e (decLt i (t .n)) }
+stands-range t st s = record { clock = s .clock; deadlines = λ i p b h e. go i p b h e (decLt i (t .n)) (decLt p (jobsOf st i)) }
   where
-    go : (i : ℕ) → i < 16 → live st i ≡ true → Dec (i < t .n) → deadline st i < 2 ^ 32
-    go i b e (yes l) = s .going i l e .small
-    go i b e (no l) = absurd (clash e (s .unused i (omega arith) b .idles))
+    go : (i p : ℕ) → i < 16 → p < 4 → live st i p ≡ true → Dec (i < t .n) → Dec (p < jobsOf st i) → deadline st i p < 2 ^ 32
+    go i p b h e (yes l) (yes k) = s .going i p l k .small
+    go i p b h e (yes l) (no k) = absurd (clash e (s .resting i p l (omega arith) h .idles))
+    go i p b h e (no l) k = absurd (clash e (s .unused i p (omega arith) b h .idles))
 
 -- ---- a state of zeros that is stopped at a task of the table fits
-zero-task : (c : ℕ) (p : Phase) (i : ℕ) → zeroTaskIn (zeros c p) i ≡ true
-unfolding zeroTaskIn
-zero-task c p i = rw (zeros-live c p i, zeros-wait c p i, zeros-work c p i, is-nothing (zeros c p) i (λ u b. zeros-remaining c p i u)) refl
+zero-task : (c : ℕ) (f : Phase) (i : ℕ) → zeroTaskIn (zeros c f) i ≡ true
+zero-task c f i = of-zero (zeros c f) i (record {
+  no-wait = zeros-wait c f i;
+  others = λ p h. record { idles = zeros-live c f i p; no-work = zeros-work c f i p; none = is-nothing (zeros c f) i p (λ u b. zeros-remaining c f i p u) };
+})
 
 pub stopped-fits : (t : Table) (c k : ℕ) → k < t .n → fits t (zeros c (Stopped k)) ≡ true
 unfolding fits fitsPhase zeros
@@ -85,15 +81,18 @@ pub record Keeps (t : Table) (st : State) (x : Ticked) : Type 0 where
 
 module _ (t : Table) (good : GoodTable t) (st : State) (s : Standing t st) (named : ℕ)
     (tasks : (i : ℕ) → bit named i ≡ true → i < t .n) (free : (i : ℕ) → bit named i ≡ true → wait st i ≡ 0)
-    (chosen : List ℕ) (only : (k : ℕ) → isIn k chosen ≡ true → available t (mid t good st s named tasks free) k ≡ true) where
+    (chosen : List ℕ) (only : (c : ℕ) → isIn c chosen ≡ true → available t (mid t good st (stands-sound t st s) named tasks free) c ≡ true) where
+  abbrev snd : Sound t st
+  snd = stands-sound t st s
+
   abbrev then : State
-  then = next t good st s named tasks free chosen only
+  then = next t good st (stands-sound t st s) named tasks free chosen
 
   sixteen : (i : ℕ) → i < t .n → i < 16
   sixteen i b = let h = good .n-high in omega arith
 
   clock-small : then .clock < 2 ^ 32
-  clock-small = let q = next-clock t good st s named tasks free chosen only 0 (omega arith) in let y = wrap-small (st .clock + 1) in omega arith
+  clock-small = let q = next-clock t good st snd named tasks free chosen in let y = wrap-small (st .clock + 1) in omega arith
 
   -- a job that misses is of a task of the table
   miss-below : (i : ℕ) → i < 16 → missed then i ≡ true → i < t .n
@@ -101,19 +100,20 @@ module _ (t : Table) (good : GoodTable t) (st : State) (s : Standing t st) (name
   miss-below i b h = elim (decLt i (t .n)) [
     | yes l ↦ l
     | no l ↦
-        let n : t .n ≤ i = omega arith in
-        absurd (clash (next-live t good st s named tasks free chosen only i b (both-true (live then i) _ h .0) .0)
-        (kept-live t good st s named tasks free i b (unnamed t good st s named tasks free i n) ∙ s .unused i n b .idles))
+        let r = any-place (λ p. live then i p && eqb (deadline then i p) (then .clock)) h in
+        let z = none-unused t good st snd named tasks free chosen i (omega arith) b in
+        absurd (clash (both-true (live then i (r .0)) _ (r .2) .0) (next-past t good st snd named tasks free chosen i b (r .0) (omega arith) (r .1) .idles))
   ]
 
   -- a job that does not miss has ticks left
-  left-over : None 16 (missed then) → (i : ℕ) → i < t .n → live then i ≡ true → 1 ≤ left then i
-  left-over fine i b e =
+  left-over : None 16 (missed then) → (i q : ℕ) → i < t .n → q < jobsOf then i → 1 ≤ left then i q
+  left-over fine i q b l =
       let c = sixteen i b in
-      let g = mid-live t good st s named tasks free i b (next-live t good st s named tasks free chosen only i c e .0) in
-      let q = next-deadline t good st s named tasks free chosen only i c e in
-      let y = g .going .small in
-      not-missed then i clock-small (omega arith) (fine i c) e
+      let four = jobs-four then i in
+      let g = mid-going t good st snd named tasks free i b (from t good st snd named tasks free chosen i q) (from-below t good st snd named tasks free chosen i b q l) in
+      let d = next-deadline t good st snd named tasks free chosen i c q l in
+      let y = g .small in
+      not-missed then i clock-small (fine i c) q (omega arith) (omega arith) (next-lives t good st snd named tasks free chosen i c q l)
 
   then-stands : None 16 (missed then) → Standing t then
   then-stands fine = next-stands t good st s named tasks free chosen only (left-over fine)
@@ -124,7 +124,7 @@ OnlyAvailable t st chosen = (k : ℕ) → isIn k chosen ≡ true → available t
 
 pub legal-only : (t : Table) (st : State) (chosen : List ℕ) → Legal t st chosen → OnlyAvailable t st chosen
 unfolding availables
-legal-only t st chosen l k e = below-pass 256 (available t st) k (l .only k e) .1
+legal-only t st chosen l k e = below-pass 1024 (available t st) k (l .only k e) .1
 
 module _ (choose : Table → State → List ℕ) (t : Table) (good : GoodTable t) (st : State) (range : InRange st) (named : ℕ) (bits : named < 2 ^ 16) where
   module _ (a : Admitted choose t st named) where
@@ -133,27 +133,27 @@ module _ (choose : Table → State → List ℕ) (t : Table) (good : GoodTable t
 
     tasks : (i : ℕ) → bit named i ≡ true → i < t .n
     unfolding beyond
-    tasks i e = leb-false (t .n) i (and-false (bit named i) _ (a .tasks i (bit-below named i bits e)) e)
+    tasks i e = leb-false (t .n) i (and-false (bit named i) _ (a .tasks i (held-below named i bits e)) e)
 
     free : (i : ℕ) → bit named i ≡ true → wait st i ≡ 0
     unfolding tooSoon
     free i e = let z = ltb-false 0 (wait st i) (and-false (bit named i) _ (a .free i (tasks i e)) e) in omega arith
 
     module _ (only : OnlyAvailable t (released t st named) (chosenIn choose t st named)) where
-      law : (k : ℕ) → isIn k (chosenIn choose t st named) ≡ true → available t (mid t good st stands named tasks free) k ≡ true
+      law : (k : ℕ) → isIn k (chosenIn choose t st named) ≡ true → available t (mid t good st (stands-sound t st stands) named tasks free) k ≡ true
       unfolding mid
       law = only
 
       pub goes-stands : None 16 (missed (afterEnds choose t st named)) → Standing t (afterEnds choose t st named)
-      unfolding next mid
+      unfolding next ran mid
       goes-stands fine = then-stands t good st stands named tasks free (chosenIn choose t st named) law fine
 
       miss-task : (i : ℕ) → Lowest 16 (missed (afterEnds choose t st named)) i → i < t .n
-      unfolding next mid
+      unfolding next ran mid
       miss-task i l = miss-below t good st stands named tasks free (chosenIn choose t st named) law i (l .below) (l .passes)
 
       new-clock : afterEnds choose t st named .clock < 2 ^ 32
-      unfolding next mid
+      unfolding next ran mid
       new-clock = clock-small t good st stands named tasks free (chosenIn choose t st named) law
 
       keeps-0 : None 16 (missed (afterEnds choose t st named))

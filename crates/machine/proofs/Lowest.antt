@@ -1,14 +1,15 @@
--- The lowest number that passes a test: it passes, and none lower does.
-use mathlib.Core.Path.{_≡_, refl, ap, _∙_}
+-- The lowest number that passes a test: it passes, and none lower does. There is one or none, by asking the numbers one after the other.
+use mathlib.Core.Path.{_≡_, refl, sym, ap, subst, _∙_}
 use mathlib.Core.Logic.{_⊎_, inl, inr, ⊎-elim}
 use mathlib.Core.Bool.{Bool, true, false}
 use mathlib.Core.List.{List, [], _∷_}
-use Prim.Native.Nat.{ℕ, zero, suc, _<_}
+use Prim.Native.Nat.{ℕ, zero, suc, _≤_, _<_}
 use native.Mathlib.Omega.{arith}
 use native.Mathlib.Decide.{ℕ-discrete}
 use lib.ListN.{getD}
 use Rattle.graph.specs.Words.{thoseBelow, lowest, isIn, firstOr, lowestOr}
-use Rattle.graph.proofs.Facts.{clash, below-all, lowest-is, lowestOr-none}
+use Rattle.graph.proofs.Facts.{clash, below-all, lowest-is, lowest-none, lowestOr-none}
+use Rattle.graph.proofs.Members.{below-same}
 
 -- y is the lowest number below n that passes the test
 pub record Lowest (n : ℕ) (p : ℕ → Bool) (y : ℕ) : Type 0 where
@@ -48,3 +49,25 @@ module _ {ℓ} {X : Type ℓ} (n : ℕ) (p : ℕ → Bool) (f : ℕ → X) (othe
       (λ r. inl (r .0, r .1, lowestOr-is (r .0) (r .1)))
       (λ none. inr (none, lowestOr-none n p f other none))
       (lowest-or-none n p)
+
+-- what a search hands back, d where it found none
+module _ (d n : ℕ) (p : ℕ → Bool) (b : n ≤ d) (r : ℕ) (e : r ≡ lowest d n p) where
+  pub found : r < d → Lowest n p r
+  found h = ⊎-elim
+      (λ q. subst (Lowest n p) (sym (e ∙ lowest-is d n p (q .0) (q .1 .below) (q .1 .passes) (q .1 .none-lower))) (q .1))
+      (λ none. let z = lowest-none d n p none in absurd (omega arith))
+      (lowest-or-none n p)
+
+  pub found-none : d ≤ r → None n p
+  found-none h = ⊎-elim
+      (λ q.
+      let z = lowest-is d n p (q .0) (q .1 .below) (q .1 .passes) (q .1 .none-lower) in
+      let y = q .1 .below in
+      absurd (omega arith))
+      (λ none. none)
+      (lowest-or-none n p)
+
+-- tests that agree have the same lowest
+pub lowest-ext : (d n : ℕ) (p q : ℕ → Bool) → ((k : ℕ) → k < n → p k ≡ q k) → lowest d n p ≡ lowest d n q
+unfolding lowest
+lowest-ext d n p q h = ap (λ (l : List ℕ). getD l 0 d) (below-same n p q h)

@@ -1,13 +1,14 @@
--- One tick less for each vertex of a list, one after the other: what is left to do from here gives what all of it gives from the start.
+-- One tick less for each vertex of a list, by its place in the four rows, one after the other: what is left to do from here gives what all of it gives
+-- from the start.
 use mathlib.Core.Path.{_≡_, refl, sym, ap, subst, _∙_}
 use mathlib.Core.Bool.{Bool, true, false}
 use mathlib.Core.List.{List, [], _∷_}
-use Prim.Native.Nat.{ℕ, zero, suc, _+_, _-_, _<_, min}
+use Prim.Native.Nat.{ℕ, zero, suc, _+_, _-_, _<_}
 use native.Mathlib.Omega.{arith}
 use native.Mathlib.Numerals.{add-one}
-use native.Mathlib.Decide.{ℕ-discrete, decLe}
-use lib.ListN.{length, getD, take, set, length-set, drop}
-use lib.Seq.{ext-getD, getD-set-same, getD-set-other, drop-cons, drop-length, take-all}
+use native.Mathlib.Decide.{ℕ-discrete}
+use lib.ListN.{length, getD, set, length-set, drop}
+use lib.Seq.{ext-getD, getD-set-same, getD-set-other, drop-cons, drop-length}
 use Rattle.graph.specs.Words.{pick, row, isIn, Distinct}
 use Rattle.graph.proofs.Facts.{clash, length-row, row-at, first-in, other-in, tail-in}
 
@@ -17,7 +18,7 @@ put-back l x = ext-getD 0 (set l x (getD l x 0)) l (length-set l x (getD l x 0))
   | no d ↦ getD-set-other l x k (getD l x 0) 0 d
 ])
 
--- what remains of vertex k once each of the list has run: one tick less than before
+-- what remains at place k once each of the list has run: one tick less than before
 unfoldable pub lessIn : List ℕ → List ℕ → List ℕ → ℕ → ℕ
 lessIn l before now k = pick (isIn k l) (getD before k 0 - 1) (getD now k 0)
 
@@ -50,14 +51,14 @@ module _ (x : ℕ) (l before now : List ℕ) (b : x < length now) where
 
 -- the first j of the list have run
 pub record RanTo (l before : List ℕ) (j : ℕ) (now : List ℕ) : Type 0 where
-  pub size : length now ≡ 256
+  pub size : length now ≡ 1024
   pub same : (k : ℕ) → lessIn (drop j l) before now k ≡ lessIn l before before k
 
-pub ran-none : (l before : List ℕ) → length before ≡ 256 → RanTo l before 0 before
+pub ran-none : (l before : List ℕ) → length before ≡ 1024 → RanTo l before 0 before
 ran-none l before e = record { size = e; same = λ k. refl }
 
 module _ (l before : List ℕ) (j : ℕ) (now : List ℕ) (r : RanTo l before j now) where
-  pub ran-one : (x y : ℕ) → j < length l → x ≡ getD l j 0 → x < 256 → y ≡ getD before x 0 - 1 → RanTo l before (j + 1) (set now x y)
+  pub ran-one : (x y : ℕ) → j < length l → x ≡ getD l j 0 → x < 1024 → y ≡ getD before x 0 - 1 → RanTo l before (j + 1) (set now x y)
   ran-one x y b e small q =
       let s : drop j l ≡ x ∷ drop (suc j) l = drop-cons l j 0 b ∙ ap (λ (z : ℕ). z ∷ drop (suc j) l) (sym e) in
       rw add-one (record {
@@ -70,16 +71,16 @@ module _ (l before : List ℕ) (j : ℕ) (now : List ℕ) (r : RanTo l before j 
       })
 
   -- a vertex of which nothing remains
-  pub ran-skip : (x : ℕ) → j < length l → x ≡ getD l j 0 → x < 256 → getD now x 0 ≡ 0 → getD before x 0 ≡ 0 → RanTo l before (j + 1) now
+  pub ran-skip : (x : ℕ) → j < length l → x ≡ getD l j 0 → x < 1024 → getD now x 0 ≡ 0 → getD before x 0 ≡ 0 → RanTo l before (j + 1) now
   ran-skip x b e small z w = subst (RanTo l before (j + 1)) (ap (set now x) (sym z) ∙ put-back now x) (ran-one x 0 b e small (omega arith))
 
-  pub ran-all : j ≡ length l → now ≡ row 256 (lessIn l before before)
+  pub ran-all : j ≡ length l → now ≡ row 1024 (lessIn l before before)
   ran-all q =
       let e : drop j l ≡ [] = ap (λ (n : ℕ). drop n l) q ∙ drop-length l in
-      ext-getD 0 now (row 256 (lessIn l before before)) (r .size ∙ sym (length-row 256 (lessIn l before before)))
+      ext-getD 0 now (row 1024 (lessIn l before before)) (r .size ∙ sym (length-row 1024 (lessIn l before before)))
       (λ k b.
-      let h : k < 256 = omega (arith, r .size) in
-      sym (less-none before now k) ∙ ap (λ (m : List ℕ). lessIn m before now k) (sym e) ∙ r .same k ∙ sym (row-at 256 (lessIn l before before) k 0 h))
+      let h : k < 1024 = omega (arith, r .size) in
+      sym (less-none before now k) ∙ ap (λ (m : List ℕ). lessIn m before now k) (sym e) ∙ r .same k ∙ sym (row-at 1024 (lessIn l before before) k 0 h))
 
 -- ---- a list in which none is twice: what is still to run is as it was
 drop-distinct : (j : ℕ) (l : List ℕ) → Distinct l → Distinct (drop j l)
@@ -110,10 +111,3 @@ module _ (l before : List ℕ) (once : Distinct l) (j : ℕ) (now : List ℕ) (r
 
   pub all-untouched : Untouched l before (j + 1) now
   all-untouched = subst (Untouched l before (j + 1)) (put-back now x) (others-untouched (getD now x 0))
-
--- of eight places as many are used as are counted, and no more than there are
-pub listed-places : (n : ℕ) (l : List ℕ) → length l ≡ 8 → take (min n 8) l ≡ take n l
-listed-places n l e = elim (decLe n 8) [
-  | yes h ↦ let z : min n 8 ≡ n = omega arith in ap (λ (k : ℕ). take k l) z
-  | no h ↦ let z : min n 8 ≡ 8 = omega arith in ap (λ (k : ℕ). take k l) z ∙ take-all 8 l (omega arith) ∙ sym (take-all n l (omega arith))
-]

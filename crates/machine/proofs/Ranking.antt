@@ -1,8 +1,9 @@
--- The machine's own choice is the first m of the one ranking of the available vertices: by ticks left, then task, then vertex.
+-- The own choice is the first m of the one ranking of the available vertices: by ticks left, task, age place, vertex. Inserting keeps rank order, and two
+-- lists in rank order with the same members are the same.
 use mathlib.Core.Path.{_≡_, refl, sym, ap, subst, _∙_}
 use mathlib.Core.Bool.{Bool, true, false}
 use mathlib.Core.List.{List, [], _∷_}
-use Prim.Native.Nat.{ℕ, _/_, _<_}
+use Prim.Native.Nat.{ℕ, _<_}
 use native.Mathlib.Omega.{arith}
 use native.Mathlib.Decide.{ℕ-discrete}
 use lib.ListN.{take}
@@ -10,8 +11,7 @@ use Rattle.graph.specs.Words.{pick, isIn, Distinct}
 use Rattle.graph.proofs.Facts.{clash, off-when, first-in, other-in, tail-in, below-pass, below-all}
 use Rattle.table.specs.declared.Table.{Table}
 use Rattle.machine.specs.declared.State.{State}
-use Rattle.machine.specs.States.{left}
-use Rattle.machine.specs.Steps.{available, availables, before, insert, ranked, ownChoice, Legal}
+use Rattle.machine.specs.Steps.{available, availables, leftIn, before, insert, ranked, ownChoice, Legal}
 use Rattle.machine.proofs.Rank.{RanksBefore, before-is, never-both, transitive, other-way}
 use Rattle.machine.proofs.Own.{no-in, each-once, insert-in, ranked-in, own-legal}
 
@@ -22,8 +22,8 @@ InRankOrder st (a ∷ l) = ((x : ℕ) → isIn x l ≡ true → RanksBefore st a
 
 -- A RANKING of the available vertices: they are all in it, nothing else is, and it is in rank order
 pub record Ranking (t : Table) (st : State) (l : List ℕ) : Type 0 where
-  pub only : (k : ℕ) → isIn k l ≡ true → (k < 256) × (available t st k ≡ true)
-  pub all : (k : ℕ) → k < 256 → available t st k ≡ true → isIn k l ≡ true
+  pub only : (k : ℕ) → isIn k l ≡ true → (k < 1024) × (available t st k ≡ true)
+  pub all : (k : ℕ) → k < 1024 → available t st k ≡ true → isIn k l ≡ true
   pub ascends : InRankOrder st l
 
 module _ (st : State) where
@@ -89,8 +89,8 @@ module _ (t : Table) (st : State) where
   pub the-ranking : Ranking t st (ranked st (availables t st))
   unfolding availables
   the-ranking = record {
-    only = λ k h. below-pass 256 (available t st) k (sym (ranked-in st k (availables t st)) ∙ h);
-    all = λ k b h. ranked-in st k (availables t st) ∙ below-all 256 (available t st) k b h;
+    only = λ k h. below-pass 1024 (available t st) k (sym (ranked-in st k (availables t st)) ∙ h);
+    all = λ k b h. ranked-in st k (availables t st) ∙ below-all 1024 (available t st) k b h;
     ascends = ranked-order st (availables t st) (each-once t st);
   }
 
@@ -107,7 +107,7 @@ module _ (t : Table) (st : State) where
 
   -- ANY LEGAL CHOICE differs from it only among equal ticks left
   pub legal-ties : (chosen : List ℕ) → Legal t st chosen → (a b : ℕ) → isIn a (ownChoice t st) ≡ true → isIn a chosen ≡ false
-      → isIn b chosen ≡ true → isIn b (ownChoice t st) ≡ false → left st (a / 16) ≡ left st (b / 16)
+      → isIn b chosen ≡ true → isIn b (ownChoice t st) ≡ false → leftIn st a ≡ leftIn st b
   legal-ties chosen l a b h₁ h₂ h₃ h₄ =
       let own = own-legal t st in
       let p = l .first a b (own .only a h₁) h₂ h₃ in

@@ -1,56 +1,55 @@
--- Step 2 in code: what remains of a task and what holds its vertices back, as sets, give the set of its available ones.
-use mathlib.Core.Path.{_≡_, refl, sym, ap, _∙_}
+-- STEP 2 BY ROWS: the ready vertices of each live slot are the available ones of its job, and a slot without a job has none. It is so of any table:
+-- where v is above 16, the vertices past the sixteenth lead nowhere, there being sixteen successors.
+use mathlib.Core.Path.{_≡_, refl, sym, ap, ap₂, fun-ext, _∙_}
 use mathlib.Core.Bool.{Bool, true, false, _&&_, _||_, not, Bool·not-not}
-use mathlib.Core.List.{List}
-use Prim.Native.Nat.{ℕ, zero, suc, _+_, _-_, _*_, _/_, _%_, _^_, _≤_, _<_, min}
+use mathlib.Core.List.{List, [], _∷_, map}
+use Prim.Native.Nat.{ℕ, zero, suc, _+_, _*_, _/_, _%_, _^_, _≤_, _<_, min}
 use native.Mathlib.Omega.{arith}
 use native.Mathlib.Nat.{min-eq-left, min-eq-right}
 use native.Mathlib.Decide.{decLe}
 use lib.ListN.{length, getD}
 use lib.Dec.{ltb, eqb}
-use lib.Bits.{bitAnd, and-le-r}
 use borrow.Author.Tests.{lt-ltb, ne-eqb}
-use Rattle.graph.specs.Words.{flag, pick, bit, sum, all, setOf}
+use mir.Val.{Val}
+use base.Fml.{Fml}
+use denote.Shadow.{shadow}
+use denote.Array.{each}
+use denote.Struct.Declared as declared
+use borrow.Author.Needs.{needs, length-unmapped}
+use Rattle.table.proofs.Table.{the-type}
+use Rattle.graph.specs.Words.{pick, bit, all, row, setOf}
 use Rattle.graph.specs.Graph.{edge, doneWithin, done, heldBack}
-use Rattle.graph.proofs.Facts.{sum-same, row-at, past-end, all-same}
+use Rattle.graph.proofs.Facts.{sum-none, all-same, past-end}
 use Rattle.graph.proofs.Bits.{bit-zero}
-use Rattle.graph.proofs.Members.{bit-without}
-use Rattle.graph.proofs.Sets.{set-small, bit-set, set-is}
-use Rattle.graph.proofs.Held.{held-by-set}
 use Rattle.table.specs.declared.Table.{Table}
-use Rattle.table.specs.Memory.{vertices, succ, edgeIn}
-use Rattle.fitness.specs.Fitness.{somethingLeft}
-use Rattle.fitness.proofs.Behind.{left-in}
+use Rattle.table.specs.Memory.{noTask, task, vertices, succ, edgeIn}
+use Rattle.slots.specs.Slots.{at, somethingLeft, isReady}
 use Rattle.machine.specs.declared.State.{State}
-use Rattle.machine.specs.States.{activity, isLive, live, remaining}
+use Rattle.machine.specs.States.{live, remaining}
 use Rattle.machine.specs.Steps.{clear, available, availableSets}
-use Rattle.machine.specs.Choosing.{isReady, inSets}
+use Rattle.machine.proofs.Filling.{length-mapped, row-ext}
+use Rattle.machine.proofs.Index.{name-task, name-age, name-vertex}
+use Rattle.machine.proofs.Apart.{slot-of}
+use Rattle.machine.proofs.Filling.{set-ext}
 
--- A TASK'S READY VERTICES: those with something remaining that nothing holds back
-pub ready-set : (succs : List ℕ) (v : ℕ) (rest : List ℕ) (i unfinished behind : ℕ) → i < 16 → unfinished ≡ setOf 16 (somethingLeft rest i)
-    → behind ≡ setOf 16 (heldBack (min v 16) (edge succs) (λ u. flag (bit unfinished u)))
-    → bitAnd unfinished (65535 - behind) ≡ setOf 16 (isReady succs v rest i)
-unfolding isReady
-ready-set succs v rest i unfinished behind h o q =
-    let l = left-in rest i h unfinished o in
-    let n = and-le-r unfinished (65535 - behind) in
-    set-is 16 (bitAnd unfinished (65535 - behind)) (isReady succs v rest i) (omega arith)
-    (λ u b.
-    bit-without unfinished behind small u b
-    ∙ ap (λ (c : Bool). c && not (bit behind u)) (ap (λ (x : ℕ). bit x u) l ∙ bit-set 16 (λ k. not (eqb (getD rest (16 * i + k) 0) 0)) u b)
-    ∙ ap (λ (c : Bool). not (eqb (getD rest (16 * i + u) 0) 0) && not c) (held u b l))
-  where
-    small : behind < 2 ^ 16
-    small = rw q (set-small (heldBack (min v 16) (edge succs) (λ u. flag (bit unfinished u))) 16)
+-- ---- what owning an array of structs tells of each of them
+each-at : (X Y : Type 0) (R : Y → List Val → Fml) (f : X → Y) (xs : List X) (us : List Val) (d : X) (i : ℕ) → i < length xs → shadow (each Y R (map f xs) us)
+    → (u : Val) × shadow (R (f (getD xs i d)) (u ∷ []))
+each-at X Y R f [] us d i b h = absurd (omega arith)
+each-at X Y R f (x ∷ xs) [] d i b h = absurd h
+each-at X Y R f (x ∷ xs) (u ∷ us) d zero b h = (u, h .0)
+each-at X Y R f (x ∷ xs) (u ∷ us) d (suc i) b h = each-at X Y R f xs us d i (omega arith) (h .1)
 
-    held : (u : ℕ) → u < 16 → unfinished ≡ setOf 16 (λ k. not (eqb (getD rest (16 * i + k) 0) 0)) → bit behind u ≡ heldBack (min v 16) (edge succs) (λ w. getD rest (16 * i + w) 0) u
-    held u b l =
-        ap (λ (x : ℕ). bit x u) q
-        ∙ bit-set 16 (heldBack (min v 16) (edge succs) (λ u. flag (bit unfinished u))) u b
-        ∙ held-by-set (min v 16) (edge succs) (λ w. getD rest (16 * i + w) 0) unfinished (omega arith) l u
+-- so each task of a table that is handed over has sixteen successors
+pub successors : (t : Table) (vs : List Val) → shadow (declared.row the-type .own t vs) → (i : ℕ) → i < 16 → length (task t i .succ) ≡ 16
+unfolding task
+successors t vs good i b =
+    let h = good .1 .1 .1 .1 .0 .1 in
+    let n : length (t .tasks) ≡ 16 = search (length-mapped, needs) in
+    length-unmapped ℕ (task t i .succ) 16 (each-at _ _ _ _ (t .tasks) _ noTask i (omega arith) (h .1) .1 .1 .1 .1 .1 .1 .0 .1 .0 .1)
 
 -- ---- it is all the same whether all are asked or the first sixteen, those past them leading nowhere
-pub all-upto : (v n : ℕ) (p : ℕ → Bool) → v ≤ n → ((j : ℕ) → v ≤ j → j < n → p j ≡ true) → all n p ≡ all v p
+all-upto : (v n : ℕ) (p : ℕ → Bool) → v ≤ n → ((j : ℕ) → v ≤ j → j < n → p j ≡ true) → all n p ≡ all v p
 unfolding all
 all-upto v zero p h k = let z : v ≡ 0 = omega arith in rw z refl
 all-upto v (suc n) p h k = elim (decLe v n) [
@@ -77,51 +76,63 @@ module _ (v : ℕ) (E : ℕ → ℕ → Bool) (rest : ℕ → ℕ) (many : 16 �
   unfolding done
   clear-narrow u = asked (doneWithin 16 v E rest) u ∙ all-same 16 _ _ (λ w b. ap (λ (c : Bool). not (E w u) || c) (within-narrow 16 w))
 
-module _ (t : Table) (i : ℕ) (sixteen : length (succ t i) ≡ 16) where
-  past : (w u : ℕ) → 16 ≤ w → edge (succ t i) w u ≡ false
-  unfolding edge
-  past w u h = ap (λ (n : ℕ). bit n u) (past-end (succ t i) w 0 (omega arith)) ∙ bit-zero u
+-- ---- one slot
+module _ (t : Table) (st : State) (i p : ℕ) (b : i < 16) (c : p < 4) where
+  abbrev slot : ℕ
+  slot = 16 * p + i
 
-  clear-is : (st : State) (u : ℕ) → clear t st i u ≡ not (heldBack (min (vertices t i) 16) (edge (succ t i)) (λ w. getD (st .remaining) (16 * i + w) 0) u)
-  unfolding clear heldBack edgeIn remaining
-  clear-is st u = elim (decLe (vertices t i) 16) [
-    | yes h ↦ rw (min-eq-left h) (sym (Bool·not-not _))
-    | no h ↦
-        let k : 16 ≤ vertices t i = omega arith in
-        rw (min-eq-right k) (clear-narrow (vertices t i) (edge (succ t i)) (λ w. getD (st .remaining) (16 * i + w) 0) k past u ∙ sym (Bool·not-not _))
-  ]
+  abbrev ready : ℕ → Bool
+  ready = isReady (task t i .succ) (task t i .v) (st .remaining) slot
 
-  available-in : (st : State) (u : ℕ) → u < 16 → available t st (16 * i + u) ≡ (isLive (activity st i) && isReady (succ t i) (vertices t i) (st .remaining) i u)
-  unfolding available live isReady remaining
-  available-in st u h =
-      let e : (16 * i + u) / 16 ≡ i = omega arith in
-      let f : (16 * i + u) % 16 ≡ u = omega arith in
-      ap (λ (j : ℕ). live st j && ltb 0 (remaining st j ((16 * i + u) % 16)) && clear t st j ((16 * i + u) % 16)) e
-      ∙ ap (λ (w : ℕ). live st i && ltb 0 (remaining st i w) && clear t st i w) f
-      ∙ ap (λ (c : Bool). live st i && ltb 0 (remaining st i u) && c) (clear-is st u)
-      ∙ apart (live st i) (getD (st .remaining) (16 * i + u) 0) _
-    where
-      apart : (a : Bool) (n : ℕ) (c : Bool) → (a && ltb 0 n && c) ≡ (a && (not (eqb n 0) && c))
-      apart true zero c = refl
-      apart true (suc n) c = ap (λ (d : Bool). d && c) (lt-ltb 0 (suc n) (omega arith) ∙ sym (ap not (ne-eqb (suc n) 0 (λ z. omega arith))))
-      apart false n c = refl
+  rests : remaining st i p ≡ at (st .remaining) slot
+  unfolding remaining
+  rests = fun-ext (λ u. let z : 256 * p + 16 * i + u ≡ 16 * slot + u = omega arith in ap (λ (k : ℕ). getD (st .remaining) k 0) z)
 
-  -- A TASK'S SET
-  pub available-set : (st : State) → setOf 16 (λ u. isLive (activity st i) && isReady (succ t i) (vertices t i) (st .remaining) i u)
-      ≡ setOf 16 (λ u. available t st (16 * i + u))
+  module _ (sixteen : length (task t i .succ) ≡ 16) where
+    past : (w u : ℕ) → 16 ≤ w → edge (task t i .succ) w u ≡ false
+    unfolding edge
+    past w u h = ap (λ (n : ℕ). bit n u) (past-end (task t i .succ) w 0 (omega arith)) ∙ bit-zero u
+
+    clear-is : (u : ℕ) → clear t st i p u ≡ not (heldBack (min (task t i .v) 16) (edge (task t i .succ)) (at (st .remaining) slot) u)
+    unfolding clear heldBack edgeIn vertices succ
+    clear-is u = rw rests (elim (decLe (task t i .v) 16) [
+      | yes h ↦ rw (min-eq-left h) (sym (Bool·not-not _))
+      | no h ↦
+          let k : 16 ≤ task t i .v = omega arith in
+          rw (min-eq-right k) (clear-narrow (task t i .v) (edge (task t i .succ)) (at (st .remaining) slot) k past u ∙ sym (Bool·not-not _))
+    ])
+
+    ready-is : (u : ℕ) → (ltb 0 (remaining st i p u) && clear t st i p u) ≡ ready u
+    unfolding isReady somethingLeft
+    ready-is u =
+        ap₂ (λ (r : ℕ) (d : Bool). ltb 0 r && d) (ap (λ (f : ℕ → ℕ). f u) rests) (clear-is u)
+        ∙ ap (λ (d : Bool). d && not (heldBack (min (task t i .v) 16) (edge (task t i .succ)) (at (st .remaining) slot) u)) (some (at (st .remaining) slot u) ∙ sym (ap (λ (l : Bool). l && not (eqb (at (st .remaining) slot u) 0)) (lt-ltb slot 64 (omega arith))))
+      where
+        some : (n : ℕ) → ltb 0 n ≡ not (eqb n 0)
+        some zero = refl
+        some (suc n) = lt-ltb 0 (suc n) (omega arith) ∙ sym (ap not (ne-eqb (suc n) 0 (λ z. omega arith)))
+
+    available-live : live st i p ≡ true → (u : ℕ) → u < 16 → available t st (64 * i + 16 * p + u) ≡ ready u
+    unfolding available
+    available-live e u h = rw (name-task i p u c h, name-age i p u c h, name-vertex i p u c h, e) (ready-is u)
+
+  available-none : live st i p ≡ false → (u : ℕ) → u < 16 → available t st (64 * i + 16 * p + u) ≡ false
+  unfolding available
+  available-none e u h = rw (name-task i p u c h, name-age i p u c h, e) refl
+
+  -- A SLOT'S SET
+  slot-set : (length (task t i .succ) ≡ 16) → (n : Bool) → n ≡ live st i p → pick n (setOf 16 ready) 0 ≡ setOf 16 (λ u. available t st (64 * i + 16 * p + u))
   unfolding setOf
-  available-set st = sum-same 16 _ _ (λ u h. ap (λ (b : Bool). pick b (2 ^ u) 0) (sym (available-in st u h)))
+  slot-set sixteen true e = sym (set-ext 16 _ _ (available-live sixteen (sym e)))
+  slot-set sixteen false e = sym (sum-none 16 _ (λ u h. ap (λ (x : Bool). pick x (2 ^ u) 0) (available-none (sym e) u h)))
 
--- an idle task has none
-pub none-available : (p : ℕ → Bool) → 0 ≡ setOf 16 (λ u. false && p u)
-unfolding setOf sum
-none-available p = refl
-
--- THE SETS OF ALL TASKS hold the available vertices
-pub in-available : (t : Table) (st : State) (k : ℕ) → k < 256 → inSets (availableSets t st) k ≡ available t st k
-unfolding inSets availableSets
-in-available t st k h =
-    let e : 16 * (k / 16) + k % 16 ≡ k = omega arith in
-    ap (λ (n : ℕ). bit n (k % 16)) (row-at 16 _ (k / 16) 0 (omega arith))
-    ∙ bit-set 16 (λ u. available t st (16 * (k / 16) + u)) (k % 16) (omega arith)
-    ∙ ap (available t st) e
+-- THE SETS OF ALL SLOTS
+pub ready-sets : (t : Table) → ((i : ℕ) → i < 16 → length (task t i .succ) ≡ 16) → (st : State) (in-it : ℕ) (rest : List ℕ) → st .remaining ≡ rest
+    → ((i p : ℕ) → i < 16 → p < 4 → bit in-it (16 * p + i) ≡ live st i p)
+    → row 64 (λ s. pick (bit in-it s) (setOf 16 (isReady (task t (s % 16) .succ) (task t (s % 16) .v) rest s)) 0) ≡ availableSets t st
+unfolding availableSets
+ready-sets t sixteen st in-it rest e lives = rw (sym e) (row-ext 64 0 _ _ (λ s h.
+    let i : s % 16 < 16 = omega arith in
+    let p : s / 16 < 4 = omega arith in
+    ap (λ (k : ℕ). pick (bit in-it k) (setOf 16 (isReady (task t (s % 16) .succ) (task t (s % 16) .v) (st .remaining) k)) 0) (sym (slot-of s))
+    ∙ slot-set t st (s % 16) (s / 16) i p (sixteen (s % 16) i) (bit in-it (16 * (s / 16) + s % 16)) (lives (s % 16) (s / 16) i p)))

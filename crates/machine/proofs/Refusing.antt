@@ -1,4 +1,5 @@
--- A tick's refusals and the parts of its reply: for every file, table, state, release set and way to choose.
+-- A tick's refusals and the parts of its reply: for every file, table, state, release set and way to choose. Each tick is one of the six
+-- cases, and each case says its reply.
 use mathlib.Core.Path.{_≡_, refl, sym, ap, subst}
 use mathlib.Core.Logic.{_⊎_, inl, inr, ⊎-elim}
 use mathlib.Core.Bool.{false}
@@ -70,7 +71,7 @@ unfolding refuse
 refuse-refused st n p k = record { state = refl; ran = refl; finished = refl }
 
 -- A REPLY on a table: "the place is 0 except for reading's numbers, the task 255 except for 31, 33 and 34"; 31 names the lowest
--- bit at or above n, 33 the lowest named task with a wait above 0, 34 the lowest live job at its deadline
+-- bit at or above n, 33 the lowest named task with a wait above 0, 34 the lowest task with a live job at its deadline
 pub record Replies (choose : Table → State → List ℕ) (t : Table) (st : State) (named : ℕ) (x : Ticked) : Type 0 where
   pub number : (x .answer .reply .number ≡ 0) ⊎ (30 ≤ x .answer .reply .number)
   pub place : x .answer .reply .place ≡ 0

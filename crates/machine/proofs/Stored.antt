@@ -1,38 +1,25 @@
 -- THE STORED WORK IS KEPT (document 02, M-104): "opening, release, running, finishing and stopping keep it equal to the sum of its vertices'
--- remainings", and so does a refused tick; for every table, every way to choose and every release set.
-use mathlib.Core.Path.{_≡_, refl, sym, subst, _∙_}
+-- remainings", and so does a refused tick; for every table, every way to choose and every release set. For each step keeps it (proofs/Working.antt).
+use mathlib.Core.Path.{_≡_, sym, subst}
 use mathlib.Core.Logic.{⊎-elim}
 use mathlib.Core.Bool.{true, _&&_}
 use mathlib.Core.List.{List}
 use Prim.Native.Nat.{ℕ, _<_}
-use Rattle.graph.proofs.Facts.{sum-none}
 use Rattle.table.specs.declared.Table.{Table}
 use Rattle.table.specs.Reading.{read}
-use Rattle.machine.specs.declared.Phase.{Phase}
 use Rattle.machine.specs.declared.Phase.the-variants.{Running, Stopped}
 use Rattle.machine.specs.declared.State.{State}
 use Rattle.machine.specs.declared.Opened.{Opened}
 use Rattle.machine.specs.declared.Ticked.{Ticked}
-use Rattle.machine.specs.States.{live, remaining, zeros, unopened, openRead, opening}
-use Rattle.machine.specs.Steps.{released, ownChoice, finishes, finished, nothingLeft}
-use Rattle.machine.specs.Fitting.{fits}
+use Rattle.machine.specs.States.{live, zeros, unopened, openRead, opening}
+use Rattle.machine.specs.Steps.{released, ownChoice, finishes, finished}
+use Rattle.machine.specs.Fitting.{nothingLeft, fits}
 use Rattle.machine.specs.Ticking.{ticked, refuse, tickOn, tickBy, tick}
 use Rattle.machine.proofs.Working.{WorkKept, zeros-keep, released-keep, worked-keep, ended-keep, finish-test}
-use Rattle.machine.proofs.Clauses.{task-work, stopped-zero}
-use Rattle.machine.proofs.Standing.{nothing-is}
+use Rattle.machine.proofs.Fitted.{fits-work}
 use Rattle.machine.proofs.Cases.{chosenIn, afterWork, afterEnds, Case, unfit, halted, no-task, early, misses, goes-on, cases}
 use Rattle.machine.proofs.Refusing.{refusal-stops, read-or-not, either-way}
 use Rattle.machine.proofs.Files.{opening-read}
-
--- in a state that fits, running or stopped
-pub fits-work : (t : Table) (st : State) → fits t st ≡ true → WorkKept st
-fits-work t st f = go (st .phase) refl
-  where
-    go : (p : Phase) → st .phase ≡ p → WorkKept st
-    go Running e i b = task-work t st f e i b
-    go (Stopped k) e i b =
-        let z = stopped-zero t st f k e i b in
-        z .no-work ∙ sym (sum-none 16 (remaining st i) (nothing-is st i (z .none)))
 
 module _ (choose : Table → State → List ℕ) (t : Table) (st : State) (named : ℕ) (kept : WorkKept st) where
   after-work : WorkKept (afterWork choose t st named)
@@ -63,10 +50,11 @@ module _ (choose : Table → State → List ℕ) (t : Table) (st : State) (named
       go x (goes-on a m q) = subst (λ (y : Ticked). WorkKept (y .state)) (sym q) done
 
   -- and in each the finish test asks whether nothing remains
-  pub finish-means : (i : ℕ) → i < 16 → finishes (afterWork choose t st named) i ≡ (live (afterWork choose t st named) i && nothingLeft (afterWork choose t st named) i)
-  finish-means i b = finish-test (afterWork choose t st named) after-work i b
+  pub finish-means : (i p : ℕ) → i < 16 → p < 4
+      → finishes (afterWork choose t st named) i p ≡ (live (afterWork choose t st named) i p && nothingLeft (afterWork choose t st named) i p)
+  finish-means i p b h = finish-test (afterWork choose t st named) after-work i p b h
 
--- FROM A STATE THAT FITS every tick leaves each task's work the sum of its vertices' remainings
+-- FROM A STATE THAT FITS every tick leaves each job's work the sum of its vertices' remainings
 pub work-kept : (choose : Table → State → List ℕ) (t : Table) (st : State) (named : ℕ) → fits t st ≡ true → WorkKept (tickOn choose t st named .state)
 work-kept choose t st named f = tick-keeps-work choose t st named (fits-work t st f)
 

@@ -1,4 +1,4 @@
--- One off a task's work for each vertex of a list of which something remains, one after the other: what is left to do from here gives what all
+-- One off a slot's work for each place of a list at which something remains, one after the other: what is left to do from here gives what all
 -- of it gives from the start.
 use mathlib.Core.Path.{_≡_, refl, sym, ap, ap₂, _∙_}
 use mathlib.Core.Bool.{Bool, true, false, _&&_}
@@ -13,12 +13,9 @@ use lib.Dec.{ltb}
 use borrow.Author.Tests.{lt-ltb, le-ltb}
 use Rattle.graph.specs.Words.{flag, pick, row, sum, isIn, Distinct}
 use Rattle.graph.proofs.Facts.{length-row, row-at, first-in, other-in, sum-same, sum-none, sum-set}
-use Rattle.machine.specs.declared.State.{State}
-use Rattle.machine.specs.States.{remaining}
-use Rattle.machine.specs.Steps.{runOf}
 use Rattle.machine.proofs.Ran.{lessIn, RanTo, ran-none, ran-one, ran-skip, ran-all, Untouched, next-untouched, not-again, others-untouched, all-untouched}
 
--- how many of task i's vertices run, by the row of what remains
+-- how many of slot i's vertices run, by the row of what remains
 unfoldable pub runIn : List ℕ → List ℕ → ℕ → ℕ
 runIn l rest i = sum 16 (λ u. flag (isIn (16 * i + u) l && ltb 0 (getD rest (16 * i + u) 0)))
 
@@ -48,7 +45,7 @@ module _ (x : ℕ) (l rest : List ℕ) (i : ℕ) where
         | no d ↦ ap (λ (c : Bool). flag (c && ltb 0 (getD rest k 0))) (other-in k x l d)
       ]
 
-  -- something does: it counts for its task, and afterwards not again
+  -- something does: it counts for its slot, and afterwards not again
   module _ (y : ℕ) (b : x < length rest) (s : 0 < getD rest x 0) (once : isIn x l && ltb 0 y ≡ false) where
     elsewhere : (k : ℕ) → (k ≡ x → ⊥) → flag (isIn k (x ∷ l) && ltb 0 (getD rest k 0)) ≡ flag (isIn k l && ltb 0 (getD (set rest x y) k 0))
     elsewhere k d =
@@ -73,11 +70,11 @@ module _ (x : ℕ) (l rest : List ℕ) (i : ℕ) where
 
 -- the first j of the list are through; `left` is what remains of those that are not
 pub record OffTo (l rest before : List ℕ) (j : ℕ) (left work : List ℕ) : Type 0 where
-  pub long : length left ≡ 256
-  pub size : length work ≡ 16
-  pub same : (i : ℕ) → i < 16 → getD work i 0 - runIn (drop j l) left i ≡ getD before i 0 - runIn l rest i
+  pub long : length left ≡ 1024
+  pub size : length work ≡ 64
+  pub same : (i : ℕ) → i < 64 → getD work i 0 - runIn (drop j l) left i ≡ getD before i 0 - runIn l rest i
 
-pub off-none : (l rest before : List ℕ) → length rest ≡ 256 → length before ≡ 16 → OffTo l rest before 0 rest before
+pub off-none : (l rest before : List ℕ) → length rest ≡ 1024 → length before ≡ 64 → OffTo l rest before 0 rest before
 off-none l rest before h e = record { long = h; size = e; same = λ i b. refl }
 
 module _ (l rest before : List ℕ) (j : ℕ) (left work : List ℕ) (r : OffTo l rest before j left work) where
@@ -98,7 +95,7 @@ module _ (l rest before : List ℕ) (j : ℕ) (left work : List ℕ) (r : OffTo 
         })
 
     -- one that runs
-    pub off-one : (y w : ℕ) → x < 256 → 0 < getD left x 0 → isIn x (drop (suc j) l) && ltb 0 y ≡ false → w ≡ getD work (x / 16) 0 - 1
+    pub off-one : (y w : ℕ) → x < 1024 → 0 < getD left x 0 → isIn x (drop (suc j) l) && ltb 0 y ≡ false → w ≡ getD work (x / 16) 0 - 1
         → OffTo l rest before (j + 1) (set left x y) (set work (x / 16) w)
     off-one y w small s once q =
         let h : x < length left = omega (arith, r .long) in
@@ -121,16 +118,16 @@ module _ (l rest before : List ℕ) (j : ℕ) (left work : List ℕ) (r : OffTo 
               ap₂ (λ (a n : ℕ). a - n) (getD-set-other work (x / 16) i w 0 d) (sym (run-other x (drop (suc j) l) left i y h s once d))
         ]
 
-  pub off-all : j ≡ length l → work ≡ row 16 (λ i. getD before i 0 - runIn l rest i)
+  pub off-all : j ≡ length l → work ≡ row 64 (λ i. getD before i 0 - runIn l rest i)
   off-all q =
       let e : drop j l ≡ [] = ap (λ (n : ℕ). drop n l) q ∙ drop-length l in
-      ext-getD 0 work (row 16 (λ i. getD before i 0 - runIn l rest i)) (r .size ∙ sym (length-row 16 (λ i. getD before i 0 - runIn l rest i)))
+      ext-getD 0 work (row 64 (λ i. getD before i 0 - runIn l rest i)) (r .size ∙ sym (length-row 64 (λ i. getD before i 0 - runIn l rest i)))
       (λ i b.
-      let h : i < 16 = omega (arith, r .size) in
+      let h : i < 64 = omega (arith, r .size) in
       let none : runIn (drop j l) left i ≡ 0 = ap (λ (m : List ℕ). runIn m left i) e ∙ run-none left i in
       let s = r .same i h in
       let z : getD work i 0 ≡ getD before i 0 - runIn l rest i = omega arith in
-      z ∙ sym (row-at 16 (λ i. getD before i 0 - runIn l rest i) i 0 h))
+      z ∙ sym (row-at 64 (λ i. getD before i 0 - runIn l rest i) i 0 h))
 
 -- ---- both at once, of a list in which none is twice: the first j have run
 pub record Runs (l rest before : List ℕ) (j : ℕ) (left work : List ℕ) : Type 0 where
@@ -138,11 +135,11 @@ pub record Runs (l rest before : List ℕ) (j : ℕ) (left work : List ℕ) : Ty
   pub kept : Untouched l rest j left
   pub off : OffTo l rest before j left work
 
-pub runs-none : (l rest before : List ℕ) → length rest ≡ 256 → length before ≡ 16 → Runs l rest before 0 rest before
+pub runs-none : (l rest before : List ℕ) → length rest ≡ 1024 → length before ≡ 64 → Runs l rest before 0 rest before
 runs-none l rest before h e = record { ran = ran-none l rest h; kept = λ k q. refl; off = off-none l rest before h e }
 
 module _ (l rest before : List ℕ) (j : ℕ) (left work : List ℕ) (r : Runs l rest before j left work) where
-  module _ (once : Distinct l) (x : ℕ) (b : j < length l) (e : x ≡ getD l j 0) (small : x < 256) where
+  module _ (once : Distinct l) (x : ℕ) (b : j < length l) (e : x ≡ getD l j 0) (small : x < 1024) where
     same-yet : getD left x 0 ≡ getD rest x 0
     same-yet = next-untouched l rest once j left (r .kept) x b e
 
@@ -160,9 +157,6 @@ module _ (l rest before : List ℕ) (j : ℕ) (left work : List ℕ) (r : Runs l
       off = off-skip l rest before j left work (r .off) x b e z;
     }
 
-  pub runs-all : j ≡ length l → (left ≡ row 256 (λ k. pick (isIn k l) (getD rest k 0 - 1) (getD rest k 0))) × ((st : State) → st .remaining ≡ rest → work ≡ row 16 (λ i. getD before i 0 - runOf st i l))
-  unfolding lessIn runIn runOf remaining
-  runs-all q = (
-    ran-all l rest j left (r .ran) q,
-    λ st h. off-all l rest before j left work (r .off) q ∙ ap (λ (m : List ℕ). row 16 (λ i. getD before i 0 - runIn l m i)) (sym h),
-  )
+  pub runs-all : j ≡ length l → (left ≡ row 1024 (λ k. pick (isIn k l) (getD rest k 0 - 1) (getD rest k 0))) × (work ≡ row 64 (λ s. getD before s 0 - runIn l rest s))
+  unfolding lessIn
+  runs-all q = (ran-all l rest j left (r .ran) q, off-all l rest before j left work (r .off) q)

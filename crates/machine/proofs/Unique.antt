@@ -20,8 +20,8 @@ use Rattle.machine.proofs.opening.zeros.Kinds as zeros-kinds
 use Rattle.machine.proofs.opening.zeros.Reads as zeros-reads
 use Rattle.machine.proofs.State.tick.Kinds as tick-kinds
 use Rattle.machine.proofs.State.tick.Reads as tick-reads
-use Rattle.machine.proofs.showing.live_set.Kinds as live-set-kinds
-use Rattle.machine.proofs.showing.live_set.Reads as live-set-reads
+use Rattle.machine.proofs.showing.live_slots.Kinds as live-slots-kinds
+use Rattle.machine.proofs.showing.live_slots.Reads as live-slots-reads
 use Rattle.machine.proofs.ticking.advance.Kinds as advance-kinds
 use Rattle.machine.proofs.ticking.advance.Reads as advance-reads
 use Rattle.machine.proofs.ticking.offered.Kinds as offered-kinds
@@ -42,9 +42,9 @@ zeros-one κs args x y s t = by-definition
 pub tick-one : OneResult 1 tick-kinds.ps tick-kinds.r tick-reads.Post
 tick-one κs args x y s t = by-definition
 
--- the set of live tasks, for the screen
-pub live-set-one : OneResult 0 live-set-kinds.ps live-set-kinds.r live-set-reads.Post
-live-set-one κs args x y s t = by-definition
+-- the set of live slots, for the screen
+pub live-slots-one : OneResult 0 live-slots-kinds.ps live-slots-kinds.r live-slots-reads.Post
+live-slots-one κs args x y s t = by-definition
 
 -- the steps with a given choice, and what a choice goes by
 pub advance-one : OneResult 0 advance-kinds.ps advance-kinds.r advance-reads.Post

@@ -1,95 +1,81 @@
-// A state's tasks taken apart for a tick: the set of those that are live, and their deadlines and waits in rows that can be lent.
+// A state's tasks taken apart for a tick: the set of slots with a live job, and their deadlines, and the waits of the tasks, in rows that can be
+// lent. Slot 16 * p + i is age place p of task i: so the oldest jobs of all tasks come first, and what remains and the work lie in their order.
 ghost use mathlib.Core.Path.{_≡_};
-ghost use Prim.Native.Nat.{_-_};
+ghost use Prim.Native.Nat.{_+_, _*_, _-_, _<_};
 ghost use lib.ListN.{getD};
 ghost use Rattle.graph.specs.Words.{pick, bit, row, setOf};
-ghost use Rattle.machine.specs.declared.Activity.the-variants.{Idle, Live};
-ghost use Rattle.machine.specs.States.{idle, isLive, waitOf, deadlineOf, ticksLeft};
-use crate::Activity;
+ghost use Rattle.machine.specs.declared.Job.the-variants.{Nothing, Live};
+ghost use Rattle.machine.specs.States.{isLive, deadlineOf, ticksLeft};
+ghost use Rattle.machine.specs.Rows.{noTask, jobIn, placeBy, tasksBy};
+use crate::Job;
+use crate::Place;
 use crate::TaskState;
 use crate::numbers;
 
-// A task's wait.
-fn wait_of(a: Activity) -> u32
-    ensures { λ r. ⌜ r ≡ waitOf a ⌝ }
+// Whether a place has a live job.
+fn is_live(j: Job) -> bool
+    ensures { λ r. ⌜ r ≡ isLive j ⌝ }
 {
-    match a {
-        Activity::Idle { wait } => wait,
-        Activity::Live { deadline, wait } => wait,
-    }
-}
-
-// Whether its job is live.
-fn is_live(a: Activity) -> bool
-    ensures { λ r. ⌜ r ≡ isLive a ⌝ }
-{
-    match a {
-        Activity::Idle { wait } => false,
-        Activity::Live { deadline, wait } => true,
+    match j {
+        Job::Nothing => false,
+        Job::Live { deadline } => true,
     }
 }
 
 // A live job's deadline; 0 where there is none.
-fn deadline_of(a: Activity) -> u32
-    ensures { λ r. ⌜ r ≡ deadlineOf a ⌝ }
+fn deadline_of(j: Job) -> u32
+    ensures { λ r. ⌜ r ≡ deadlineOf j ⌝ }
 {
-    match a {
-        Activity::Idle { wait } => 0,
-        Activity::Live { deadline, wait } => deadline,
+    match j {
+        Job::Nothing => 0,
+        Job::Live { deadline } => deadline,
     }
 }
 
-// The live tasks.
-pub(crate) fn live_set(states: [TaskState; 16]) -> u16
-    ensures { λ r. ⌜ r ≡ setOf 16 (λ i. isLive (getD states i idle .activity)) ⌝ }
+// The slots with a live job.
+pub(crate) fn live_set(states: [TaskState; 16]) -> u64
+    ensures { λ r. ⌜ r ≡ setOf 64 (λ s. isLive (jobIn states s)) ⌝ }
 {
-    let mut set: u16 = 0;
-    for i in 0..16usize {
-        let s = states[i];
-        let a = s.activity;
-        if is_live(a) {
-            let member = numbers::power(i);
+    let mut set: u64 = 0;
+    for s in 0..64usize {
+        let t = states[s % 16];
+        let place = t.jobs[s / 16];
+        let j = place.job;
+        if is_live(j) {
+            let member = numbers::power(s);
             set += member;
         }
     }
     set
 }
 
-// Each task's deadline; 0 where there is none.
-pub(crate) fn deadlines_of(states: [TaskState; 16]) -> [u32; 16]
-    ensures { λ r. ⌜ r ≡ row 16 (λ i. deadlineOf (getD states i idle .activity)) ⌝ }
+// The deadlines of the slots in a set; 0 elsewhere.
+pub(crate) fn deadlines_of(states: [TaskState; 16], set: u64) -> [u32; 64]
+    ensures { λ r. ⌜ r ≡ row 64 (λ s. pick (bit set s) (deadlineOf (jobIn states s)) 0) ⌝ }
 {
-    let mut deadlines = [0u32; 16];
-    for i in 0..16usize {
-        let s = states[i];
-        let a = s.activity;
-        deadlines[i] = deadline_of(a);
+    let mut deadlines = [0u32; 64];
+    let mut rest = set;
+    while rest != 0 {
+        let s = numbers::first_of(rest);
+        let t = states[s % 16];
+        let place = t.jobs[s / 16];
+        let j = place.job;
+        deadlines[s] = deadline_of(j);
+        rest &= rest - 1;
     }
     deadlines
 }
 
 // Each task's wait.
 pub(crate) fn waits_of(states: [TaskState; 16]) -> [u32; 16]
-    ensures { λ r. ⌜ r ≡ row 16 (λ i. waitOf (getD states i idle .activity)) ⌝ }
+    ensures { λ r. ⌜ r ≡ row 16 (λ i. getD states i noTask .wait) ⌝ }
 {
     let mut waits = [0u32; 16];
     for i in 0..16usize {
-        let s = states[i];
-        let a = s.activity;
-        waits[i] = wait_of(a);
+        let t = states[i];
+        waits[i] = t.wait;
     }
     waits
-}
-
-// Each task's ticks left.
-pub(crate) fn left_of(deadlines: &[u32; 16], clock: u32) -> [u32; 16]
-    ensures { λ r. ⌜ r ≡ row 16 (λ i. ticksLeft (getD (now (deadlines .entry)) i 0) clock) ⌝ }
-{
-    let mut left = [0u32; 16];
-    for i in 0..16usize {
-        left[i] = ticks_left(deadlines[i], clock);
-    }
-    left
 }
 
 // The ticks left before a deadline.
@@ -99,32 +85,62 @@ fn ticks_left(deadline: u32, clock: u32) -> u32
     std::num::wrapping_sub_u32(deadline, clock)
 }
 
-// A task's entry, put together.
-fn entry(live: bool, deadline: u32, wait: u32) -> TaskState
-    ensures { λ r. ⌜ r .activity ≡ pick live (Live deadline wait) (Idle wait) ⌝ }
+// The ticks left of the slots in a set; 0 elsewhere.
+pub(crate) fn left_of(deadlines: &[u32; 64], clock: u32, set: u64) -> [u32; 64]
+    ensures { λ r. ⌜ r ≡ row 64 (λ s. pick (bit set s) (ticksLeft (getD (now (deadlines .entry)) s 0) clock) 0) ⌝ }
+{
+    let mut left = [0u32; 64];
+    let mut rest = set;
+    while rest != 0 {
+        let s = numbers::first_of(rest);
+        left[s] = ticks_left(deadlines[s], clock);
+        rest &= rest - 1;
+    }
+    left
+}
+
+// A place, put together.
+fn place_of(live: bool, deadline: u32) -> Place
+    ensures { λ r. ⌜ r ≡ record { job = pick live (Live deadline) Nothing } ⌝ }
 {
     if live {
-        let going = Activity::Live {
-            deadline: deadline,
-            wait: wait,
-        };
-        return TaskState { activity: going };
+        let going = Job::Live { deadline: deadline };
+        return Place { job: going };
     }
-    let resting = Activity::Idle { wait: wait };
-    TaskState { activity: resting }
+    let none = Job::Nothing;
+    Place { job: none }
+}
+
+// A task's four places.
+fn places(live: u64, deadlines: &[u32; 64], i: usize) -> [Place; 4]
+    requires { ⌜ i < 16 ⌝ }
+    ensures { λ r. ⌜ r ≡ row 4 (placeBy live (now (deadlines .entry)) i) ⌝ }
+{
+    let none = Place { job: Job::Nothing };
+    let mut jobs = [none; 4];
+    for p in 0..4usize {
+        let s = 16 * p + i;
+        jobs[p] = place_of((live >> s) % 2 == 1, deadlines[s]);
+    }
+    jobs
 }
 
 // The tasks put together, each wait one less, not below 0.
-pub(crate) fn together(live: u16, deadlines: &[u32; 16], waits: &[u32; 16]) -> [TaskState; 16]
-    ensures { λ r. ⌜ r ≡ row 16 (λ i. record { activity = pick (bit live i) (Live (getD (now (deadlines .entry)) i 0) (getD (now (waits .entry)) i 0 - 1)) (Idle (getD (now (waits .entry)) i 0 - 1)) }) ⌝ }
+pub(crate) fn together(live: u64, deadlines: &[u32; 64], waits: &[u32; 16]) -> [TaskState; 16]
+    ensures { λ r. ⌜ r ≡ tasksBy live (now (deadlines .entry)) (now (waits .entry)) ⌝ }
 {
-    let none = TaskState {
-        activity: Activity::Idle { wait: 0 },
+    let none = Place { job: Job::Nothing };
+    let idle = TaskState {
+        wait: 0,
+        jobs: [none; 4],
     };
-    let mut tasks = [none; 16];
+    let mut tasks = [idle; 16];
     for i in 0..16usize {
-        let wait = numbers::less(waits[i]);
-        tasks[i] = entry((live >> i) % 2 == 1, deadlines[i], wait);
+        let jobs = places(live, deadlines, i);
+        tasks[i] = TaskState {
+            wait: numbers::less(waits[i]),
+            jobs: jobs,
+        };
     }
     tasks
 }

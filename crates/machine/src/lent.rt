@@ -1,13 +1,14 @@
-// The steps of a tick where the rows lie: each is lent and changed in place.
+// Steps 1 and 4 of a tick where the rows lie: each is lent and changed in place, at the slots of a set.
 ghost use mathlib.Core.Path.{_≡_};
 ghost use mathlib.Core.Bool.{_&&_};
-ghost use Prim.Native.Nat.{_+_, _-_, _/_, _<_};
+ghost use Prim.Native.Nat.{_-_, _/_, _%_, _<_};
 ghost use lib.ListN.{length, getD};
 ghost use lib.Dec.{ltb, eqb};
 ghost use Rattle.graph.specs.Words.{pick, bit, row, isIn, Distinct, lowest, setOf};
+ghost use Rattle.slots.specs.Slots.{workLeft};
 ghost use Rattle.machine.specs.declared.State.{State};
-ghost use Rattle.machine.specs.Steps.{listed, runOf};
-ghost use Rattle.machine.specs.Choosing.{begunDeadlines, begunWaits, begunRest, begunWork};
+ghost use Rattle.machine.specs.Steps.{nameAt, listed, runOf};
+ghost use Rattle.machine.specs.Rows.{placeIn, usedBy, isNewBy, begunDeadlines, begunWaits, begunRest, begunWork};
 use crate::Chosen;
 use crate::numbers;
 use table::Table;
@@ -36,100 +37,151 @@ pub(crate) fn first_early(named: u16, n: u8, waits: &[u32; 16]) -> u8
     16
 }
 
-// Step 1 of the tasks named: the deadline is the clock plus D, wrapped; a wait of T, of which this tick takes one.
-fn begin_named(t: Table, clock: u32, named: u16, deadlines: &mut [u32; 16], waits: &mut [u32; 16])
-    requires { ⌜ (length (now deadlines) ≡ 16) × (length (now waits) ≡ 16) ⌝ }
-    ensures { λ r. ⌜ (now (deadlines .exit) ≡ begunDeadlines t clock named (now (deadlines .entry))) × (now (waits .exit) ≡ begunWaits t named (now (waits .entry))) ⌝ }
+// How many places of task i are in use.
+fn places_used(live: u64, i: usize) -> usize
+    requires { ⌜ i < 16 ⌝ }
+    ensures { λ r. ⌜ r ≡ usedBy live i ⌝ }
+{
+    let mut count: usize = 0;
+    for p in 0..4usize {
+        if (live >> (16 * p + i)) % 2 == 1 {
+            count += 1;
+        }
+    }
+    count
+}
+
+// Whether a slot gets a new job: its task is named, and it is the first place that is not in use.
+fn is_new(live: u64, named: u16, s: usize) -> bool
+    requires { ⌜ s < 64 ⌝ }
+    ensures { λ r. ⌜ r ≡ isNewBy live named s ⌝ }
+{
+    if (named >> (s % 16)) % 2 != 1 {
+        return false;
+    }
+    s / 16 == places_used(live, s % 16)
+}
+
+// Step 1: the slots that get a new job.
+pub(crate) fn fresh(live: u64, named: u16) -> u64
+    ensures { λ r. ⌜ r ≡ setOf 64 (isNewBy live named) ⌝ }
+{
+    let mut set: u64 = 0;
+    if named == 0 {
+        return set;
+    }
+    for s in 0..64usize {
+        if is_new(live, named, s) {
+            let member = numbers::power(s);
+            set += member;
+        }
+    }
+    set
+}
+
+// Step 1 of the deadlines: the clock plus D, wrapped.
+fn begin(t: Table, clock: u32, fresh: u64, deadlines: &mut [u32; 64])
+    requires { ⌜ length (now deadlines) ≡ 64 ⌝ }
+    ensures { λ r. ⌜ now (deadlines .exit) ≡ begunDeadlines t clock fresh (now (deadlines .entry)) ⌝ }
+{
+    let tasks = t.tasks;
+    let mut rest = fresh;
+    while rest != 0 {
+        let s = numbers::first_of(rest);
+        deadlines[s] = std::num::wrapping_add_u32(clock, tasks[s % 16].d);
+        rest &= rest - 1;
+    }
+}
+
+// Step 1 of the waits of the tasks named: T, of which this tick takes one.
+fn wait_anew(t: Table, named: u16, waits: &mut [u32; 16])
+    requires { ⌜ length (now waits) ≡ 16 ⌝ }
+    ensures { λ r. ⌜ now (waits .exit) ≡ begunWaits t named (now (waits .entry)) ⌝ }
 {
     let tasks = t.tasks;
     for i in 0..16usize {
         if (named >> i) % 2 == 1 {
-            deadlines[i] = std::num::wrapping_add_u32(clock, tasks[i].d);
             waits[i] = tasks[i].t;
         }
     }
 }
 
-// The same; where none is named the table is not looked at.
-fn begin(t: Table, clock: u32, named: u16, deadlines: &mut [u32; 16], waits: &mut [u32; 16])
-    requires { ⌜ (length (now deadlines) ≡ 16) × (length (now waits) ≡ 16) ⌝ }
-    ensures { λ r. ⌜ (now (deadlines .exit) ≡ begunDeadlines t clock named (now (deadlines .entry))) × (now (waits .exit) ≡ begunWaits t named (now (waits .entry))) ⌝ }
-{
-    if named == 0 {
-        return;
-    }
-    begin_named(t, clock, named, &mut *deadlines, &mut *waits);
-}
-
-// A task's sixteen costs.
-fn put_task(costs: &[u32; 256], i: usize, remaining: &mut [u32; 256])
-    requires { ⌜ (i < 16) × (length (now remaining) ≡ 256) ⌝ }
-    ensures { λ r. ⌜ now (remaining .exit) ≡ row 256 (λ k. pick (eqb (k / 16) i) (getD (now (costs .entry)) k 0) (getD (now (remaining .entry)) k 0)) ⌝ }
+// The sixteen costs of a slot's task.
+fn put_slot(costs: &[u32; 256], s: usize, remaining: &mut [u32; 1024])
+    requires { ⌜ (s < 64) × (length (now remaining) ≡ 1024) ⌝ }
+    ensures { λ r. ⌜ now (remaining .exit) ≡ row 1024 (λ k. pick (eqb (k / 16) s) (getD (now (costs .entry)) (k % 256) 0) (getD (now (remaining .entry)) k 0)) ⌝ }
 {
     for u in 0..16usize {
-        remaining[16 * i + u] = costs[16 * i + u];
+        let k = 16 * s + u;
+        remaining[k] = costs[k % 256];
     }
 }
 
-// Step 1 of what remains: the costs of the tasks named.
-fn put_costs(costs: &[u32; 256], named: u16, remaining: &mut [u32; 256])
-    requires { ⌜ length (now remaining) ≡ 256 ⌝ }
-    ensures { λ r. ⌜ now (remaining .exit) ≡ begunRest (now (costs .entry)) named (now (remaining .entry)) ⌝ }
+// Step 1 of what remains: the costs at each new slot.
+fn put_costs(costs: &[u32; 256], fresh: u64, remaining: &mut [u32; 1024])
+    requires { ⌜ length (now remaining) ≡ 1024 ⌝ }
+    ensures { λ r. ⌜ now (remaining .exit) ≡ begunRest (now (costs .entry)) fresh (now (remaining .entry)) ⌝ }
 {
-    if named == 0 {
-        return;
-    }
-    for i in 0..16usize {
-        if (named >> i) % 2 == 1 {
-            put_task(costs, i, &mut *remaining);
-        }
+    let mut rest = fresh;
+    while rest != 0 {
+        let s = numbers::first_of(rest);
+        put_slot(costs, s, &mut *remaining);
+        rest &= rest - 1;
     }
 }
 
-// Step 1 of the work: the costs of the tasks named, added up.
-fn put_work(costs: &[u32; 256], named: u16, work: &mut [u64; 16])
-    requires { ⌜ length (now work) ≡ 16 ⌝ }
-    ensures { λ r. ⌜ now (work .exit) ≡ begunWork (now (costs .entry)) named (now (work .entry)) ⌝ }
+// Step 1 of the work, once that of what remains is made: its sum at each new slot.
+fn put_work(remaining: &[u32; 1024], fresh: u64, work: &mut [u64; 64])
+    requires { ⌜ length (now work) ≡ 64 ⌝ }
+    ensures { λ r. ⌜ now (work .exit) ≡ row 64 (λ s. pick (bit fresh s) (workLeft (now (remaining .entry)) s) (getD (now (work .entry)) s 0)) ⌝ }
 {
-    if named == 0 {
-        return;
-    }
-    for i in 0..16usize {
-        if (named >> i) % 2 == 1 {
-            work[i] = fitness::work_left(costs, i);
-        }
+    let mut rest = fresh;
+    while rest != 0 {
+        let s = numbers::first_of(rest);
+        work[s] = slots::work_left(remaining, s);
+        rest &= rest - 1;
     }
 }
 
-// Step 1 where the rows lie.
+// Step 1 where the rows lie: `fresh` are the slots that get a new job.
 pub(crate) fn release(
     t: Table,
     clock: u32,
     costs: &[u32; 256],
     named: u16,
-    deadlines: &mut [u32; 16],
+    fresh: u64,
+    deadlines: &mut [u32; 64],
     waits: &mut [u32; 16],
-    remaining: &mut [u32; 256],
-    work: &mut [u64; 16],
+    remaining: &mut [u32; 1024],
+    work: &mut [u64; 64],
 )
-    requires { ⌜ (length (now deadlines) ≡ 16) × (length (now waits) ≡ 16) × (length (now remaining) ≡ 256) × (length (now work) ≡ 16) ⌝ }
-    ensures { λ r. ⌜ (now (deadlines .exit) ≡ begunDeadlines t clock named (now (deadlines .entry))) × (now (waits .exit) ≡ begunWaits t named (now (waits .entry))) × (now (remaining .exit) ≡ begunRest (now (costs .entry)) named (now (remaining .entry))) × (now (work .exit) ≡ begunWork (now (costs .entry)) named (now (work .entry))) ⌝ }
+    requires { ⌜ (length (now deadlines) ≡ 64) × (length (now waits) ≡ 16) × (length (now remaining) ≡ 1024) × (length (now work) ≡ 64) ⌝ }
+    ensures { λ r. ⌜ (now (deadlines .exit) ≡ begunDeadlines t clock fresh (now (deadlines .entry))) × (now (waits .exit) ≡ begunWaits t named (now (waits .entry))) × (now (remaining .exit) ≡ begunRest (now (costs .entry)) fresh (now (remaining .entry))) × (now (work .exit) ≡ begunWork (now (costs .entry)) fresh (now (remaining .entry)) (now (work .entry))) ⌝ }
 {
-    begin(t, clock, named, &mut *deadlines, &mut *waits);
-    put_costs(costs, named, &mut *remaining);
-    put_work(costs, named, &mut *work);
+    begin(t, clock, fresh, &mut *deadlines);
+    wait_anew(t, named, &mut *waits);
+    put_costs(costs, fresh, &mut *remaining);
+    put_work(&*remaining, fresh, &mut *work);
+}
+
+// Where in the four rows the vertex with a number in a choice lies.
+fn place_in(key: usize) -> usize
+    requires { ⌜ key < 1024 ⌝ }
+    ensures { λ r. ⌜ (r ≡ placeIn key) × (r < 1024) ⌝ }
+{
+    256 * (key / 16 % 4) + 16 * (key / 64) + key % 16
 }
 
 // Step 4 of what remains and of the work: one tick less for each vertex chosen of which something remains, none of them twice.
-pub(crate) fn run(chosen: Chosen, remaining: &mut [u32; 256], work: &mut [u64; 16])
-    requires { ⌜ Distinct (listed chosen) × (length (now remaining) ≡ 256) × (length (now work) ≡ 16) ⌝ }
-    ensures { λ r. ⌜ (now (remaining .exit) ≡ row 256 (λ k. pick (isIn k (listed chosen)) (getD (now (remaining .entry)) k 0 - 1) (getD (now (remaining .entry)) k 0))) × ((st : State) → st .remaining ≡ now (remaining .entry) → now (work .exit) ≡ row 16 (λ i. getD (now (work .entry)) i 0 - runOf st i (listed chosen))) ⌝ }
+pub(crate) fn run(chosen: Chosen, remaining: &mut [u32; 1024], work: &mut [u64; 64])
+    requires { ⌜ Distinct (listed chosen) × (length (now remaining) ≡ 1024) × (length (now work) ≡ 64) ⌝ }
+    ensures { λ r. ⌜ (now (remaining .exit) ≡ row 1024 (λ k. pick (isIn (nameAt k) (listed chosen)) (getD (now (remaining .entry)) k 0 - 1) (getD (now (remaining .entry)) k 0))) × ((st : State) → st .remaining ≡ now (remaining .entry) → now (work .exit) ≡ row 64 (λ s. getD (now (work .entry)) s 0 - runOf st (s % 16) (s / 16) (listed chosen))) ⌝ }
 {
     let count = numbers::places(chosen.count);
     let keys = chosen.keys;
     let mut j: usize = 0;
     while j < count {
-        let k = numbers::wide(keys[j]);
+        let k = place_in(numbers::key(keys[j]));
         if remaining[k] != 0 {
             let after = numbers::less(remaining[k]);
             remaining[k] = after;
@@ -137,52 +189,4 @@ pub(crate) fn run(chosen: Chosen, remaining: &mut [u32; 256], work: &mut [u64; 1
         }
         j += 1;
     }
-}
-
-// Whether task i is live and has no work left.
-fn ends(live: u16, work: &[u64; 16], i: usize) -> bool
-    requires { ⌜ i < 16 ⌝ }
-    ensures { λ r. ⌜ r ≡ (bit live i && eqb (getD (now (work .entry)) i 0) 0) ⌝ }
-{
-    if (live >> i) % 2 == 1 {
-        return work[i] == 0;
-    }
-    false
-}
-
-// Step 5: the live tasks with no work left.
-pub(crate) fn done_of(live: u16, work: &[u64; 16]) -> u16
-    ensures { λ r. ⌜ r ≡ setOf 16 (λ i. bit live i && eqb (getD (now (work .entry)) i 0) 0) ⌝ }
-{
-    let mut set: u16 = 0;
-    for i in 0..16usize {
-        if ends(live, work, i) {
-            let member = numbers::power(i);
-            set += member;
-        }
-    }
-    set
-}
-
-// Whether task i is live and its deadline is the clock.
-fn is_late(live: u16, deadlines: &[u32; 16], clock: u32, i: u8) -> bool
-    requires { ⌜ i < 16 ⌝ }
-    ensures { λ r. ⌜ r ≡ (bit live i && eqb (getD (now (deadlines .entry)) i 0) clock) ⌝ }
-{
-    if (live >> i) % 2 == 1 {
-        return deadlines[i as usize] == clock;
-    }
-    false
-}
-
-// Step 6: the lowest live task whose deadline is the clock, 16 if there is none.
-pub(crate) fn first_late(live: u16, deadlines: &[u32; 16], clock: u32) -> u8
-    ensures { λ r. ⌜ r ≡ lowest 16 16 (λ i. bit live i && eqb (getD (now (deadlines .entry)) i 0) clock) ⌝ }
-{
-    for i in 0..16u8 {
-        if is_late(live, deadlines, clock, i) {
-            return i;
-        }
-    }
-    16
 }

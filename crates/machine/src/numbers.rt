@@ -1,6 +1,7 @@
 // Small numbers that the steps of a tick use.
 ghost use mathlib.Core.Path.{_≡_};
-ghost use Prim.Native.Nat.{_-_, _^_, _<_, min};
+ghost use Prim.Native.Nat.{_-_, _%_, _^_, _<_, min};
+ghost use lib.Count.{trailingZeros};
 
 // One less, not below 0.
 pub(crate) fn less(x: u32) -> u32
@@ -12,11 +13,34 @@ pub(crate) fn less(x: u32) -> u32
     x - 1
 }
 
-// A vertex's number as an index.
-pub(crate) fn wide(x: u8) -> usize
-    ensures { λ r. ⌜ (r ≡ x) × (r < 256) ⌝ }
+// Ticks in 64 bits, so that a sum of them does not wrap.
+pub(crate) fn wide(x: u32) -> u64
+    ensures { λ r. ⌜ (r ≡ x) × (r < 4294967296) ⌝ }
 {
-    x as usize
+    x as u64
+}
+
+// Two to the power s.
+pub(crate) fn power(s: usize) -> u64
+    requires { ⌜ s < 64 ⌝ }
+    ensures { λ r. ⌜ r ≡ 2 ^ s ⌝ }
+{
+    1u64 << s
+}
+
+// The lowest member of a set that is not empty.
+pub(crate) fn first_of(set: u64) -> usize
+    requires { ⌜ 0 < set ⌝ }
+    ensures { λ r. ⌜ (r ≡ trailingZeros 64 set) × (r < 64) ⌝ }
+{
+    u64::trailing_zeros(set) as usize
+}
+
+// The number of a vertex in a choice, as an index.
+pub(crate) fn key(x: u16) -> usize
+    ensures { λ r. ⌜ (r ≡ x % 1024) × (r < 1024) ⌝ }
+{
+    (x as usize) % 1024
 }
 
 // How many of the eight places are used.
@@ -47,12 +71,4 @@ pub(crate) fn entries(n: u8) -> u8
         return n;
     }
     16
-}
-
-// Two to the power i.
-pub(crate) fn power(i: usize) -> u16
-    requires { ⌜ i < 16 ⌝ }
-    ensures { λ r. ⌜ r ≡ 2 ^ i ⌝ }
-{
-    1u16 << i
 }

@@ -1,9 +1,10 @@
 // Opening a table: all tasks are idle with wait 0.
 ghost use mathlib.Core.Path.{_≡_};
 ghost use Rattle.machine.specs.States.{zeros, unopened, opening};
-use crate::Activity;
+use crate::Job;
 use crate::Opened;
 use crate::Phase;
+use crate::Place;
 use crate::Reply;
 use crate::State;
 use crate::TaskState;
@@ -13,15 +14,17 @@ use table::Outcome;
 pub fn zeros(clock: u32, phase: Phase) -> State
     ensures { λ r. ⌜ r ≡ zeros clock phase ⌝ }
 {
+    let none = Place { job: Job::Nothing };
     let idle = TaskState {
-        activity: Activity::Idle { wait: 0 },
+        wait: 0,
+        jobs: [none; 4],
     };
     State {
         clock: clock,
         phase: phase,
         tasks: [idle; 16],
-        remaining: [0u32; 256],
-        work: [0u64; 16],
+        remaining: [0u32; 1024],
+        work: [0u64; 64],
     }
 }
 

@@ -1,23 +1,25 @@
 // The tick: its steps one after the other, and its refusals. The definitions are in specs/Ticking.antt.
 ghost use mathlib.Core.Path.{_≡_};
-ghost use mathlib.Core.Bool.{_&&_};
+ghost use mathlib.Core.Bool.{_&&_, false};
 ghost use Prim.Native.Nat.{_≤_, _<_};
 ghost use lib.Dec.{ltb, leb};
-ghost use Rattle.graph.specs.Words.{bit, lowest};
+ghost use lib.ListN.{length};
+ghost use Rattle.graph.specs.Words.{pick, bit, lowest};
 ghost use Rattle.machine.specs.States.{wait};
 ghost use Rattle.table.specs.Good.{GoodTable};
 ghost use Rattle.machine.specs.Steps.{offered, ownChoice, listed};
-ghost use Rattle.machine.specs.Choosing.{fitsBy, replyOf, refusalOf, rowsAfter};
-ghost use Rattle.machine.specs.Ticking.{nobody, pairOf, runList, advanceTo, advance, refuse, tickOn};
+ghost use Rattle.machine.specs.Rows.{fitsBy, replyOf, refusalOf, rowsAfter, Tidy};
+ghost use Rattle.machine.specs.Ticking.{nobody, tripleOf, runList, advanceTo, advance, refuse, tickOn};
 use crate::Answer;
 use crate::Chosen;
 use crate::Offer;
-use crate::Pair;
 use crate::Phase;
 use crate::Reply;
 use crate::State;
 use crate::Ticked;
+use crate::Triple;
 use crate::choosing;
+use crate::closing;
 use crate::fitting;
 use crate::held;
 use crate::lent;
@@ -25,33 +27,36 @@ use crate::opening;
 use table::Table;
 
 // An unused place of a run list.
-fn unused() -> Pair
+fn unused() -> Triple
     ensures { λ r. ⌜ r ≡ nobody ⌝ }
 {
-    Pair {
+    Triple {
         task: 255,
+        age: 255,
         vertex: 255,
     }
 }
 
-// A vertex by task and vertex.
-fn pair_of(k: u8) -> Pair
-    ensures { λ r. ⌜ r ≡ pairOf k ⌝ }
+// A vertex by task, age place and vertex.
+fn triple_of(k: u16) -> Triple
+    requires { ⌜ k < 1024 ⌝ }
+    ensures { λ r. ⌜ r ≡ tripleOf k ⌝ }
 {
-    Pair {
-        task: k / 16,
-        vertex: k % 16,
+    Triple {
+        task: (k / 64) as u8,
+        age: (k / 16 % 4) as u8,
+        vertex: (k % 16) as u8,
     }
 }
 
 // The vertices that ran, eight places.
-fn run_list(chosen: Chosen) -> [Pair; 8]
+fn run_list(chosen: Chosen) -> [Triple; 8]
     ensures { λ r. ⌜ r ≡ runList (listed chosen) ⌝ }
 {
     let mut ran = [unused(); 8];
     for j in 0..8usize {
         if j < chosen.count {
-            ran[j] = pair_of(chosen.keys[j]);
+            ran[j] = triple_of(chosen.keys[j] % 1024);
         }
     }
     ran
@@ -140,11 +145,11 @@ fn refusal(
     phase: Phase,
     costs: &[u32; 256],
     named: u16,
-    live: u16,
-    ticks: &[u32; 16],
+    live: u64,
+    ticks: &[u32; 64],
     waits: &[u32; 16],
-    work: &[u64; 16],
-    remaining: &[u32; 256],
+    work: &[u64; 64],
+    remaining: &[u32; 1024],
 ) -> Reply
     requires { ⌜ t .n ≤ 16 ⌝ }
     ensures { λ r. ⌜ r ≡ refusalOf (fitsBy phase t (now (costs .entry)) live (now (ticks .entry)) (now (waits .entry)) (now (work .entry)) (now (remaining .entry))) phase named (t .n) (now (waits .entry)) ⌝ }
@@ -166,36 +171,56 @@ fn refusal(
     reply(0, 255)
 }
 
-// Steps 5 and 6, of the state after step 4 that these rows make.
+// The tasks whose gaps are closed: every one, or those of which a job ended.
+fn to_close(every: bool, over: u16) -> u16
+    ensures { λ r. ⌜ r ≡ pick every 65535 over ⌝ }
+{
+    if every {
+        return 65535;
+    }
+    over
+}
+
+// Steps 5 and 6, of the state after step 4 that these rows make. Where the rows are tidy, only the tasks of which a job ended have a gap to close.
 fn told(
+    every: bool,
     clock: u32,
     phase: Phase,
-    begun: u16,
+    begun: u64,
     chosen: Chosen,
-    deadlines: &[u32; 16],
+    deadlines: &mut [u32; 64],
     waits: &[u32; 16],
-    remaining: &[u32; 256],
-    work: &[u64; 16],
+    remaining: &mut [u32; 1024],
+    work: &mut [u64; 64],
 ) -> Ticked
+    requires { ⌜ (length (now deadlines) ≡ 64) × (length (now remaining) ≡ 1024) × (length (now work) ≡ 64) × (every ≡ false → Tidy begun (now remaining) (now work)) ⌝ }
     ensures { λ r. ⌜ r ≡ advanceTo (listed chosen) (rowsAfter clock phase begun (now (deadlines .entry)) (now (waits .entry)) (now (remaining .entry)) (now (work .entry))) ⌝ }
 {
-    let done = lent::done_of(begun, work);
+    let done = closing::done_of(begun, &*work);
+    let over = closing::tasks_in(done);
     let going = begun & !done;
+    let live = closing::close(
+        to_close(every, over),
+        going,
+        &mut *deadlines,
+        &mut *remaining,
+        &mut *work,
+    );
     let next = std::num::wrapping_add_u32(clock, 1);
-    let late = lent::first_late(going, deadlines, next);
+    let late = closing::first_late(live, &*deadlines, next);
     if late < 16 {
         let stopped = opening::zeros(next, Phase::Stopped(late));
         return Ticked {
-            answer: answer(34, late, chosen, done),
+            answer: answer(34, late, chosen, over),
             state: stopped,
         };
     }
     Ticked {
-        answer: answer(0, 255, chosen, done),
+        answer: answer(0, 255, chosen, over),
         state: State {
             clock: next,
             phase: phase,
-            tasks: held::together(going, deadlines, waits),
+            tasks: held::together(live, &*deadlines, waits),
             remaining: *remaining,
             work: *work,
         },
@@ -214,30 +239,42 @@ pub(crate) fn tick_on(t: Table, st: State, named: u16) -> Ticked
     let mut rest = st.remaining;
     let mut work = st.work;
     let live = held::live_set(states);
-    let mut deadlines = held::deadlines_of(states);
+    let mut deadlines = held::deadlines_of(states, live);
     let mut waits = held::waits_of(states);
-    let ticks = held::left_of(&deadlines, clock);
+    let ticks = held::left_of(&deadlines, clock, live);
     let no = refusal(t, phase, &costs, named, live, &ticks, &waits, &work, &rest);
     if no.number != 0 {
         return refuse(st, no.number, 0, no.task);
     }
+    let fresh = lent::fresh(live, named);
     lent::release(
         t,
         clock,
         &costs,
         named,
+        fresh,
         &mut deadlines,
         &mut waits,
         &mut rest,
         &mut work,
     );
-    let live = live | named;
-    let chosen = choosing::own_choice(t, clock, live, &deadlines, &rest);
+    let begun = live | fresh;
+    let chosen = choosing::own_choice(t, clock, begun, &deadlines, &rest);
     lent::run(chosen, &mut rest, &mut work);
-    told(clock, phase, live, chosen, &deadlines, &waits, &rest, &work)
+    told(
+        false,
+        clock,
+        phase,
+        begun,
+        chosen,
+        &mut deadlines,
+        &waits,
+        &mut rest,
+        &mut work,
+    )
 }
 
-// Steps 1, 4, 5 and 6, with the vertices that a choice lists; one that is listed twice runs once.
+// Steps 1, 4, 5 and 6, with the vertices that a choice lists; one that is listed twice runs once. Any state is taken, so every gap is closed.
 pub fn advance(t: Table, st: State, named: u16, chosen: Chosen) -> Ticked
     ensures { λ r. ⌜ r ≡ advance t st named (listed chosen) ⌝ }
 {
@@ -248,22 +285,34 @@ pub fn advance(t: Table, st: State, named: u16, chosen: Chosen) -> Ticked
     let mut rest = st.remaining;
     let mut work = st.work;
     let live = held::live_set(states);
-    let mut deadlines = held::deadlines_of(states);
+    let mut deadlines = held::deadlines_of(states, live);
     let mut waits = held::waits_of(states);
+    let fresh = lent::fresh(live, named);
     lent::release(
         t,
         clock,
         &costs,
         named,
+        fresh,
         &mut deadlines,
         &mut waits,
         &mut rest,
         &mut work,
     );
+    let begun = live | fresh;
     let once = choosing::once(chosen);
     lent::run(once, &mut rest, &mut work);
-    let live = live | named;
-    told(clock, phase, live, chosen, &deadlines, &waits, &rest, &work)
+    told(
+        true,
+        clock,
+        phase,
+        begun,
+        chosen,
+        &mut deadlines,
+        &waits,
+        &mut rest,
+        &mut work,
+    )
 }
 
 // Step 2, once step 1 is made, and what step 3 ranks by.
@@ -276,20 +325,23 @@ pub fn offered(t: Table, st: State, named: u16) -> Offer
     let mut rest = st.remaining;
     let mut work = st.work;
     let live = held::live_set(states);
-    let mut deadlines = held::deadlines_of(states);
+    let mut deadlines = held::deadlines_of(states, live);
     let mut waits = held::waits_of(states);
+    let fresh = lent::fresh(live, named);
     lent::release(
         t,
         clock,
         &costs,
         named,
+        fresh,
         &mut deadlines,
         &mut waits,
         &mut rest,
         &mut work,
     );
+    let begun = live | fresh;
     Offer {
-        sets: choosing::sets_of(t, live | named, &rest),
-        left: held::left_of(&deadlines, clock),
+        sets: choosing::sets_of(t, begun, &rest),
+        left: held::left_of(&deadlines, clock, begun),
     }
 }

@@ -15,15 +15,15 @@ use Rattle.machine.specs.declared.Ticked.{Ticked}
 use Rattle.machine.specs.Ticking.{refuse, tickRead, tickBy, tick}
 use Rattle.machine.proofs.Refusing.{read-or-not}
 use Rattle.panel.specs.declared.FaceState.{FaceState}
-use Rattle.panel.specs.declared.TickAnswer.{TickAnswer}
+use Rattle.panel.specs.declared.TickedFace.{TickedFace}
 use Rattle.panel.specs.States.{faceOf, stateOf, isProper}
-use Rattle.panel.specs.Answers.{tickedFace, refusedFace, tickAnswer}
+use Rattle.panel.specs.Answers.{answerFace, tickedFace, refusedFace, tickAnswer}
 
 module _ (s : List ℕ) (f : FaceState) (named : ℕ) where
   -- ---- a face state that is a state
   module _ (back : faceOf (stateOf f) ≡ f) (proper : isProper f ≡ true) where
     refused-there : (k p : ℕ) → tickedFace (refuse (stateOf f) k p 255) ≡ refusedFace f k p
-    unfolding tickedFace refuse refusedFace
+    unfolding answerFace tickedFace refuse refusedFace
     refused-there k p = ap (λ (g : FaceState). refusedFace g k p) back
 
     when-refused : (read s .outcome ≡ Read → ⊥) → tickedFace (tick s (stateOf f) named) ≡ tickAnswer s f named
@@ -40,13 +40,13 @@ module _ (s : List ℕ) (f : FaceState) (named : ℕ) where
 
   -- ---- one that is none: reading's numbers, then 30
   module _ (l : Loaded) (h : l ≡ read s) (b : Bool) (is : b ≡ isProper f) (off : b ≡ false) where
-    pub unfit-stop : (n p : ℕ) (r : TickAnswer) → (l .outcome ≡ Read → ⊥) → n ≡ number (l .outcome) → p ≡ place (l .outcome) → r ≡ refusedFace f n p
+    pub unfit-stop : (n p : ℕ) (r : TickedFace) → (l .outcome ≡ Read → ⊥) → n ≡ number (l .outcome) → p ≡ place (l .outcome) → r ≡ refusedFace f n p
         → r ≡ tickAnswer s f named
     unfolding tickAnswer
     unfit-stop n p r none j k q =
         q ∙ ap₂ (refusedFace f) j k ∙ rw (← h) (not-read (l .outcome) (λ o. refusedFace f (number o) (place o)) _ none)
 
-    pub unfit-got : (r : TickAnswer) → l .outcome ≡ Read → r ≡ refusedFace f 30 0 → r ≡ tickAnswer s f named
+    pub unfit-got : (r : TickedFace) → l .outcome ≡ Read → r ≡ refusedFace f 30 0 → r ≡ tickAnswer s f named
     unfolding tickAnswer
     unfit-got r e q = q ∙ rw (← h, e, ← is, off) refl
 

@@ -22,10 +22,11 @@ pub extern "C" fn mt_judge(bytes: &[u8], rows: &[u8]) -> RulingAnswer
     let j = journal::judge(bytes, rows);
     let missed = flag_of(j.missed);
     RulingAnswer {
-        number: j.number,
-        missed: missed,
         place: j.place as u64,
         row: j.row as u64,
         rows: j.rows as u64,
+        number: j.number,
+        missed: missed,
+        pad: [0u8; 6],
     }
 }

@@ -1,13 +1,16 @@
 // The machine's state as it crosses the C face, and back. The definitions are in specs/States.antt.
 ghost use mathlib.Core.Path.{_≡_};
 ghost use mathlib.Core.Bool.{true};
+ghost use lib.ListN.{getD};
+ghost use lib.Dec.{eqb};
 ghost use Rattle.graph.specs.Words.{all, row};
-ghost use Rattle.machine.specs.States.{activity};
-ghost use Rattle.panel.specs.States.{stoppedOf, atOf, faceTask, faceOf, faceTaskAt, phaseOf, activityOf, stateOf, properPhase, properTask, isProper};
+ghost use Rattle.machine.specs.States.{deadlineOf, taskOf};
+ghost use Rattle.panel.specs.States.{stoppedOf, atOf, liveOf, liveFlags, deadlinesOf, faceJobs, faceOf, jobsAt, phaseOf, placeOf, jobsOf, stateOf, properPhase, properPlace, properJobs, isProper};
+use crate::FaceJobs;
 use crate::FaceState;
-use crate::FaceTask;
-use machine::Activity;
+use machine::Job;
 use machine::Phase;
+use machine::Place;
 use machine::State;
 use machine::TaskState;
 
@@ -31,39 +34,77 @@ fn at_of(p: Phase) -> u8
     }
 }
 
-// A task as it crosses.
-fn face_task(a: Activity) -> FaceTask
-    ensures { λ r. ⌜ r ≡ faceTask a ⌝ }
+// 1 for a place with a job.
+fn live_of(j: Job) -> u8
+    ensures { λ r. ⌜ r ≡ liveOf j ⌝ }
 {
-    match a {
-        Activity::Idle { wait } => FaceTask {
-            live: 0,
-            deadline: 0,
-            wait: wait,
-        },
-        Activity::Live { deadline, wait } => FaceTask {
-            live: 1,
-            deadline: deadline,
-            wait: wait,
-        },
+    match j {
+        Job::Nothing => 0,
+        Job::Live { deadline } => 1,
+    }
+}
+
+// A job's deadline, 0 where there is none.
+fn deadline_of(j: Job) -> u32
+    ensures { λ r. ⌜ r ≡ deadlineOf j ⌝ }
+{
+    match j {
+        Job::Nothing => 0,
+        Job::Live { deadline } => deadline,
+    }
+}
+
+// Which of four places have a job.
+fn live_flags(places: [Place; 4]) -> [u8; 4]
+    ensures { λ r. ⌜ r ≡ liveFlags places ⌝ }
+{
+    let mut flags = [0u8; 4];
+    for p in 0..4usize {
+        let place = places[p];
+        let j = place.job;
+        flags[p] = live_of(j);
+    }
+    flags
+}
+
+// The deadlines of four places.
+fn deadlines_of(places: [Place; 4]) -> [u32; 4]
+    ensures { λ r. ⌜ r ≡ deadlinesOf places ⌝ }
+{
+    let mut deadlines = [0u32; 4];
+    for p in 0..4usize {
+        let place = places[p];
+        let j = place.job;
+        deadlines[p] = deadline_of(j);
+    }
+    deadlines
+}
+
+// A task as it crosses.
+fn face_jobs(a: TaskState) -> FaceJobs
+    ensures { λ r. ⌜ r ≡ faceJobs a ⌝ }
+{
+    let places = a.jobs;
+    FaceJobs {
+        wait: a.wait,
+        deadline: deadlines_of(places),
+        live: live_flags(places),
     }
 }
 
 // The tasks as they cross.
-fn face_tasks(st: State) -> [FaceTask; 16]
-    ensures { λ r. ⌜ r ≡ row 16 (λ i. faceTask (activity st i)) ⌝ }
+fn face_tasks(st: State) -> [FaceJobs; 16]
+    ensures { λ r. ⌜ r ≡ row 16 (λ i. faceJobs (taskOf st i)) ⌝ }
 {
     let given = st.tasks;
-    let none = FaceTask {
-        live: 0,
-        deadline: 0,
+    let none = FaceJobs {
         wait: 0,
+        deadline: [0u32; 4],
+        live: [0u8; 4],
     };
     let mut tasks = [none; 16];
     for i in 0..16usize {
-        let s = given[i];
-        let a = s.activity;
-        tasks[i] = face_task(a);
+        tasks[i] = face_jobs(given[i]);
     }
     tasks
 }
@@ -76,12 +117,13 @@ pub(crate) fn face_of(st: State) -> FaceState
     let remaining = st.remaining;
     let work = st.work;
     FaceState {
+        work: work,
         clock: st.clock,
         stopped: stopped_of(p),
         at: at_of(p),
+        pad: [0u8; 2],
         tasks: face_tasks(st),
         remaining: remaining,
-        work: work,
     }
 }
 
@@ -95,19 +137,28 @@ fn phase_of(stopped: u8, at: u8) -> Phase
     Phase::Stopped(at)
 }
 
-// The task that crossed.
-fn activity_of(a: FaceTask) -> TaskState
-    ensures { λ r. ⌜ r .activity ≡ activityOf a ⌝ }
+// The place that crossed.
+fn place_of(live: u8, deadline: u32) -> Place
+    ensures { λ r. ⌜ r ≡ placeOf live deadline ⌝ }
 {
-    if a.live == 0 {
-        let idle = Activity::Idle { wait: a.wait };
-        return TaskState { activity: idle };
+    if live == 0 {
+        let none = Job::Nothing;
+        return Place { job: none };
     }
-    let live = Activity::Live {
-        deadline: a.deadline,
-        wait: a.wait,
-    };
-    TaskState { activity: live }
+    let going = Job::Live { deadline: deadline };
+    Place { job: going }
+}
+
+// A task's places that crossed.
+fn places_of(a: FaceJobs) -> [Place; 4]
+    ensures { λ r. ⌜ r ≡ jobsOf a .jobs ⌝ }
+{
+    let none = Place { job: Job::Nothing };
+    let mut places = [none; 4];
+    for p in 0..4usize {
+        places[p] = place_of(a.live[p], a.deadline[p]);
+    }
+    places
 }
 
 // The tasks that crossed.
@@ -115,12 +166,18 @@ fn tasks_of(s: FaceState) -> [TaskState; 16]
     ensures { λ r. ⌜ r ≡ stateOf s .tasks ⌝ }
 {
     let given = s.tasks;
+    let none = Place { job: Job::Nothing };
     let idle = TaskState {
-        activity: Activity::Idle { wait: 0 },
+        wait: 0,
+        jobs: [none; 4],
     };
     let mut tasks = [idle; 16];
     for i in 0..16usize {
-        tasks[i] = activity_of(given[i]);
+        let a = given[i];
+        tasks[i] = TaskState {
+            wait: a.wait,
+            jobs: places_of(a),
+        };
     }
     tasks
 }
@@ -150,23 +207,47 @@ fn proper_phase(stopped: u8, at: u8) -> bool
     stopped == 1
 }
 
-// Whether a task is one: an idle task has no deadline.
-fn proper_task(a: FaceTask) -> bool
-    ensures { λ r. ⌜ r ≡ properTask a ⌝ }
+// Whether a place is one: without a job it has no deadline.
+fn proper_place(live: u8, deadline: u32) -> bool
+    ensures { λ r. ⌜ r ≡ properPlace live deadline ⌝ }
 {
-    if a.live == 0 {
-        return a.deadline == 0;
+    if live == 0 {
+        return deadline == 0;
     }
-    a.live == 1
+    live == 1
+}
+
+// Whether a task's places are.
+fn proper_jobs(a: FaceJobs) -> bool
+    ensures { λ r. ⌜ r ≡ properJobs a ⌝ }
+{
+    for p in 0..4usize {
+        if !proper_place(a.live[p], a.deadline[p]) {
+            return false;
+        }
+    }
+    true
 }
 
 // Whether each task is one.
 fn proper_tasks(s: FaceState) -> bool
-    ensures { λ r. ⌜ r ≡ all 16 (λ i. properTask (faceTaskAt s i)) ⌝ }
+    ensures { λ r. ⌜ r ≡ all 16 (λ i. properJobs (jobsAt s i)) ⌝ }
 {
     let tasks = s.tasks;
     for i in 0..16usize {
-        if !proper_task(tasks[i]) {
+        if !proper_jobs(tasks[i]) {
+            return false;
+        }
+    }
+    true
+}
+
+// Whether the padding is zeros.
+fn proper_pad(pad: [u8; 2]) -> bool
+    ensures { λ r. ⌜ r ≡ all 2 (λ j. eqb (getD pad j 0) 0) ⌝ }
+{
+    for j in 0..2usize {
+        if pad[j] != 0 {
             return false;
         }
     }
@@ -178,6 +259,10 @@ pub(crate) fn is_proper(s: FaceState) -> bool
     ensures { λ r. ⌜ r ≡ isProper s ⌝ }
 {
     if !proper_phase(s.stopped, s.at) {
+        return false;
+    }
+    let pad = s.pad;
+    if !proper_pad(pad) {
         return false;
     }
     proper_tasks(s)

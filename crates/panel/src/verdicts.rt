@@ -16,12 +16,13 @@ fn verdict_face(v: Verdict) -> VerdictAnswer
 {
     let chain = v.chain;
     VerdictAnswer {
-        number: v.number,
-        task: v.task,
         place: v.place as u64,
         margin: v.margin,
+        number: v.number,
+        task: v.task,
         count: v.count,
         chain: chain,
+        pad: [0u8; 5],
     }
 }
 

@@ -1,44 +1,52 @@
--- ALONG A RUN of either kind. Before each tick the state is safe by the costs in force, its waits are those of true time, and each live job has the
--- ticks left that true time gives it since its release. Releases that are spaced then find their wait at 0, so the tick goes on, and it is so again.
+-- ALONG A RUN of either kind. Before each tick the state is safe, its waits are those of true time, and each live job has the ticks left that true time
+-- gives it since its release. Releases that are spaced then find their wait at 0, so the tick goes on, and it is so again.
 use mathlib.Core.Path.{_≡_, refl, sym, ap, subst, _∙_}
+use mathlib.Core.Logic.{_⊎_, inl, inr, ⊎-elim}
 use mathlib.Core.Bool.{Bool, true, false, cond}
 use mathlib.Core.List.{List}
-use Prim.Native.Nat.{ℕ, zero, suc, _+_, _-_, _^_, _≤_, _<_}
+use Prim.Native.Nat.{ℕ, suc, _+_, _*_, _-_, _^_, _≤_, _<_}
 use native.Mathlib.Omega.{arith}
 use native.Mathlib.Decide.{decLe}
-use Rattle.graph.specs.Words.{pick, bit}
-use Rattle.graph.proofs.Facts.{clash, off-when}
+use lib.ListN.{length, getD}
+use borrow.Author.Tests.{lt-ltb}
+use Rattle.graph.specs.Words.{pick, bit, isIn}
+use Rattle.graph.proofs.Facts.{row-at}
 use Rattle.table.specs.declared.Table.{Table}
 use Rattle.table.specs.declared.Outcome.the-variants.{Read}
 use Rattle.table.specs.Memory.{D, T}
 use Rattle.table.specs.Reading.{read}
 use Rattle.machine.specs.declared.Phase.the-variants.{Running}
 use Rattle.machine.specs.declared.State.{State}
+use Rattle.machine.specs.declared.Triple.{Triple}
 use Rattle.machine.specs.declared.Ticked.{Ticked}
-use Rattle.machine.specs.States.{live, wait, left}
-use Rattle.machine.specs.Steps.{released, worked, ended, finished, Legal}
-use Rattle.machine.specs.Ticking.{ticked, advanceTo}
-use Rattle.machine.proofs.Index.{zeros-live, zeros-wait}
+use Rattle.machine.specs.States.{live, wait, jobsOf, remaining, left}
+use Rattle.machine.specs.Steps.{ageIn, vertexIn, released, worked, ended, finished, Legal}
+use Rattle.machine.specs.Ticking.{nobody, tripleOf, runList, ticked}
+use Rattle.machine.proofs.Clauses.{jobs-four}
+use Rattle.machine.proofs.Places.{in-at}
+use Rattle.machine.proofs.Index.{name-task, name-age, name-vertex, zeros-wait, zeros-jobs}
 use Rattle.theory.proofs.Time.{clock, clock-last}
-use Rattle.promise.specs.Runs.{tableOf, taking, Plan, Kind, tickAt, stateAt, midAt, answerAt}
-use Rattle.promise.specs.Demand3.{Since, Within}
 use Rattle.promise.proofs.Certified.{Certified}
-use Rattle.promise.proofs.Costs.{drawing, released-drawing, drawing-stands}
+use Rattle.promise.specs.Runs.{tableOf, taking, Plan, Kind, Drawn, tickAt, stateAt, midAt, answerAt}
+use Rattle.promise.specs.Demand3.{Since, Within, Lives, Stood}
+use Rattle.promise.proofs.Count.{chosen-available, at-most}
 use Rattle.promise.proofs.Moves.{opens, Going}
+use Rattle.promise.proofs.OneTick as OneTick
 use Rattle.promise.proofs.Safe as S
 use Rattle.promise.proofs.Safe.{Safe, opened-safe}
 
--- the costs in force before tick y: the stated ones, then what releases drew
-unfoldable pub inForce : Table → Plan → ℕ → List ℕ
-inForce t plan zero = t .costs
-inForce t plan (suc y) = drawing (plan .rel y) (plan .times y) (inForce t plan y)
-
 -- what is true of the state before tick y
-pub record Before (t : Table) (Force : Table → List ℕ → Type 0) (plan : Plan) (y : ℕ) (st : State) : Type 0 where
-  pub force : Force t (inForce t plan y)
-  pub safe : Safe t (inForce t plan y) st
+pub record Before (t : Table) (Also : Table → State → Type 0) (plan : Plan) (y : ℕ) (st : State) : Type 0 where
+  pub also : Also t st
+  pub safe : Safe t st
   pub waits : (i : ℕ) → i < t .n → wait st i ≡ clock (T t i) (λ a. bit (plan .rel a) i) y
-  pub since : (i : ℕ) → i < t .n → live st i ≡ true → Since t (plan .rel) y i (left st i)
+  pub since : (i p : ℕ) → i < t .n → p < jobsOf st i → Since t (plan .rel) y i (left st i p)
+
+-- the job of task i that was released at tick a is live before tick y
+pub record Held (t : Table) (i a y : ℕ) (st : State) : Type 0 where
+  pub place : ℕ
+  pub among : place < jobsOf st i
+  pub ticks : left st i place + y ≡ a + D t i
 
 module _ (kind : Kind) (going : Going kind) (file : List ℕ) (well : read file .outcome ≡ Read) (spare : ℕ → ℕ) (cert : Certified (tableOf file) spare)
     (c : ℕ) (small : c < 2 ^ 32) (plan : Plan) where
@@ -52,16 +60,16 @@ module _ (kind : Kind) (going : Going kind) (file : List ℕ) (well : read file 
   st y = stateAt kind file c plan y
 
   abbrev pub Now : ℕ → Type 0
-  Now y = Before t (going .Force) plan y (st y)
+  Now y = Before t (going .Also) plan y (st y)
 
   -- just opened
   pub opened : Now 0
-  unfolding stateAt inForce clock
+  unfolding stateAt clock
   opened = rw (opens file well c) (record {
-    force = going .first t;
-    safe = opened-safe t (cert .good) (t .costs) (going .drawn t (t .costs) (going .first t)) c small;
+    also = going .first t (cert .good) c small;
+    safe = opened-safe t (cert .good) c small;
     waits = λ i b. zeros-wait c Running i;
-    since = λ i b e. absurd (clash e (zeros-live c Running i));
+    since = λ i p b l. let z = zeros-jobs c Running i in absurd (omega arith);
   })
 
   -- ---- within tick y
@@ -76,86 +84,82 @@ module _ (kind : Kind) (going : Going kind) (file : List ℕ) (well : read file 
         out (yes h) = let r = clock-last (T t i) (λ a. bit (rel a) i) y h in absurd (omega (arith, r .3, apart i (r .0) (r .1) (r .2) e))
         out (no h) = omega arith
 
-    -- by what they draw the state is safe too
-    abbrev costs : List ℕ
-    costs = inForce t plan (suc y)
+    drawn : Drawn t (plan .times y)
+    drawn = going .drawn t (plan .times y) times
 
-    force : going .Force t costs
-    unfolding inForce
-    force = going .draws t (rel y) (plan .times y) (inForce t plan y) times (p .force)
-
-    safe : Safe t costs (st y)
-    unfolding inForce
-    safe = record {
-      drawn = going .drawn t costs force;
-      stands = drawing-stands t (rel y) (plan .times y) (inForce t plan y) (st y) (cert .good .n-high)
-          (S.was-idle t spare cert (inForce t plan y) (st y) (p .safe) (rel y) tasks free) (p .safe .stands);
-      reach = p .safe .reach;
-    }
-
-    mid-is : midAt kind file c plan y ≡ released (taking t costs) (st y) (rel y)
-    unfolding midAt inForce
-    mid-is = released-drawing t (rel y) (plan .times y) (inForce t plan y) (st y)
-
-    sixteen : (i : ℕ) → i < t .n → i < 16
-    sixteen i b = let h = cert .good .n-high in omega arith
+    abbrev now : State
+    now = released (taking t (plan .times y)) (st y) (rel y)
 
     -- each live job, in true time
-    since-now : (i : ℕ) → live (released (taking t costs) (st y) (rel y)) i ≡ true → Since t rel y i (left (released (taking t costs) (st y) (rel y)) i)
-    since-now i e = go (bit (rel y) i) refl
-      where
-        b : i < t .n
-        b = S.below t spare cert costs (st y) safe (rel y) tasks free i e
-
-        go : (q : Bool) → bit (rel y) i ≡ q → Since t rel y i (left (released (taking t costs) (st y) (rel y)) i)
-        go true n =
-            let z = S.new-left t spare cert costs (st y) safe (rel y) tasks free i n in
-            let d = cert .good .each i b .D-low in
-            record { at = y; released = n; past = omega arith; ticks = omega arith; ahead = omega arith }
-        go false n = subst (Since t rel y i) (sym (S.kept-left t spare cert costs (st y) safe (rel y) tasks free i (sixteen i b) n))
-            (p .since i b (sym (S.kept-live t spare cert costs (st y) safe (rel y) tasks free i (sixteen i b) n) ∙ e))
+    since-now : (i q : ℕ) → live now i q ≡ true → Since t rel y i (left now i q)
+    since-now i q e =
+        let b = OneTick.below t (cert .good) (st y) (p .safe .sound) (rel y) tasks free (plan .times y) drawn i q e .0 in
+        ⊎-elim
+        (λ l. subst (Since t rel y i) (sym (OneTick.stays t (cert .good) (st y) (p .safe .sound) (rel y) tasks free (plan .times y) drawn i q b l .1)) (p .since i q b l))
+        (λ n.
+        let d = cert .good .each i b .D-low in
+        let z = n .1 in
+        record { at = y; released = n .0; past = omega arith; ticks = omega arith; ahead = omega arith })
+        (OneTick.comes t (cert .good) (st y) (p .safe .sound) (rel y) tasks free (plan .times y) drawn i q e)
 
     pub within : Within t spare rel y (midAt kind file c plan y)
-    within = subst (Within t spare rel y) (sym mid-is) (record {
-      chains = S.chains-fit t spare cert costs (st y) safe (rel y) tasks free;
-      unfinished = S.longest-fits t spare cert costs (st y) safe (rel y) tasks free;
+    unfolding midAt
+    within = record {
+      chains = S.chains-fit t spare cert (st y) (p .safe) (rel y) tasks free (plan .times y) drawn;
+      unfinished = S.longest-fits t spare cert (st y) (p .safe) (rel y) tasks free (plan .times y) drawn;
       since = since-now;
-    })
+      apart = OneTick.apart t (cert .good) (st y) (p .safe .sound) (rel y) tasks free (plan .times y) drawn;
+    }
 
-    -- a job that is released has D ticks left; one that was live goes on, since its task is not named
-    pub starts : (i : ℕ) → bit (rel y) i ≡ true → (live (midAt kind file c plan y) i ≡ true) × (left (midAt kind file c plan y) i ≡ D t i)
-    starts i e = (
-      ap (λ (s : State). live s i) mid-is ∙ S.new-live t spare cert costs (st y) safe (rel y) tasks free i e,
-      ap (λ (s : State). left s i) mid-is ∙ S.new-left t spare cert costs (st y) safe (rel y) tasks free i e,
-    )
+    -- a job that is released is live, with D ticks left
+    pub begins : (i : ℕ) → bit (rel y) i ≡ true → Lives t i y y (midAt kind file c plan y)
+    unfolding midAt
+    begins i e =
+        let r = OneTick.starts t (cert .good) (st y) (p .safe .sound) (rel y) tasks free (plan .times y) drawn i e in
+        record { place = jobsOf (st y) i; lives = r .0; ticks = omega (arith, r .1) }
 
-    pub stays : (i : ℕ) → i < 16 → live (st y) i ≡ true → (live (midAt kind file c plan y) i ≡ true) × (left (midAt kind file c plan y) i ≡ left (st y) i)
-    stays i b e =
-        let n = off-when (bit (rel y) i) (λ q. clash e (S.was-idle t spare cert costs (st y) safe (rel y) tasks free i q)) in (
-          ap (λ (s : State). live s i) mid-is ∙ S.kept-live t spare cert costs (st y) safe (rel y) tasks free i b n ∙ e,
-          ap (λ (s : State). left s i) mid-is ∙ S.kept-left t spare cert costs (st y) safe (rel y) tasks free i b n,
-        )
+    -- one that is live before the tick is live within it, and the other way round if it is older
+    pub enters : (i a : ℕ) → i < t .n → Held t i a y (st y) → Lives t i a y (midAt kind file c plan y)
+    unfolding midAt
+    enters i a b h =
+        let r = OneTick.stays t (cert .good) (st y) (p .safe .sound) (rel y) tasks free (plan .times y) drawn i (h .place) b (h .among) in
+        record { place = h .place; lives = r .0; ticks = omega (arith, r .1, h .ticks) }
 
-    pub ahead : (i : ℕ) → live (midAt kind file c plan y) i ≡ true → 1 ≤ left (midAt kind file c plan y) i
-    ahead i e = rw mid-is (S.ahead t spare cert costs (st y) safe (rel y) tasks free i (sym (ap (λ (s : State). live s i) mid-is) ∙ e))
+    pub was-held : (i a : ℕ) → a < y → Lives t i a y (midAt kind file c plan y) → Held t i a y (st y)
+    unfolding midAt
+    was-held i a l h =
+        let b = OneTick.below t (cert .good) (st y) (p .safe .sound) (rel y) tasks free (plan .times y) drawn i (h .place) (h .lives) .0 in
+        let k = h .ticks in
+        ⊎-elim
+        (λ q. record {
+          place = h .place;
+          among = q;
+          ticks = let r = OneTick.stays t (cert .good) (st y) (p .safe .sound) (rel y) tasks free (plan .times y) drawn i (h .place) b q .1 in omega arith;
+        })
+        (λ n. let z = n .1 in absurd (omega arith))
+        (OneTick.comes t (cert .good) (st y) (p .safe .sound) (rel y) tasks free (plan .times y) drawn i (h .place) (h .lives))
+
+    -- its deadline is still to come
+    pub ahead : (i a : ℕ) → Lives t i a y (midAt kind file c plan y) → y < a + D t i
+    unfolding midAt
+    ahead i a h =
+        let k = OneTick.ahead t (cert .good) (st y) (p .safe .sound) (rel y) tasks free (plan .times y) drawn i (h .place) (h .lives) in
+        omega (arith, h .ticks)
 
     -- ---- and after it
     module _ (legal : Legal t (midAt kind file c plan y) (plan .choice y)) where
-      abbrev now : State
-      now = released (taking t costs) (st y) (rel y)
-
       law : Legal t now (plan .choice y)
-      law = subst (λ (s : State). Legal t s (plan .choice y)) mid-is legal
+      unfolding midAt
+      law = legal
 
       abbrev next : State
       next = ended (worked t now (rel y) (plan .choice y))
 
-      pub tick-is : tickAt kind file c plan y (st y) ≡ ticked 0 255 (plan .choice y) (finished (worked t now (rel y) (plan .choice y))) next
-      unfolding tickAt midAt
+      tick-is : tickAt kind file c plan y (st y) ≡ ticked 0 255 (plan .choice y) (finished (worked t now (rel y) (plan .choice y))) next
+      unfolding tickAt
       tick-is =
-          going .goes file well (cert .good) (inForce t plan y) (p .force) (st y) (p .safe .stands) (rel y) tasks free (plan .times y) times (plan .choice y)
-          ∙ ap (λ (s : State). advanceTo (plan .choice y) (worked t s (rel y) (plan .choice y))) mid-is
-          ∙ S.goes t spare cert costs (st y) safe (rel y) tasks free (plan .choice y) law
+          going .goes file well (cert .good) (st y) (p .also) (rel y) tasks free (plan .times y) times (plan .choice y)
+          ∙ S.goes t spare cert (st y) (p .safe) (rel y) tasks free (plan .times y) drawn (plan .choice y) law
 
       state-is : st (suc y) ≡ next
       unfolding stateAt ticked
@@ -165,53 +169,116 @@ module _ (kind : Kind) (going : Going kind) (file : List ℕ) (well : read file 
       unfolding answerAt ticked
       answered = ap (λ (z : Ticked). z .answer .reply .number) tick-is
 
-      pub done-is : answerAt kind file c plan y .finished ≡ finished (worked t now (rel y) (plan .choice y))
+      done-is : answerAt kind file c plan y .finished ≡ finished (worked t now (rel y) (plan .choice y))
       unfolding answerAt ticked
       done-is = ap (λ (z : Ticked). z .answer .finished) tick-is
 
       -- a job that is still live has a tick less
-      since-next : (i : ℕ) → i < t .n → live next i ≡ true → Since t rel (suc y) i (left next i)
-      since-next i b e =
-          let l = S.after-live t spare cert costs (st y) safe (rel y) tasks free (plan .choice y) law i b e in
-          let z = S.after-left t spare cert costs (st y) safe (rel y) tasks free (plan .choice y) law i b e in
-          let a = S.after-ahead t spare cert costs (st y) safe (rel y) tasks free (plan .choice y) law i b e in
-          let w = since-now i l in
+      since-next : (i q : ℕ) → i < t .n → q < jobsOf next i → Since t rel (suc y) i (left next i q)
+      since-next i q b l =
+          let f = OneTick.comes-from t (cert .good) (st y) (p .safe .sound) (rel y) tasks free (plan .times y) drawn (plan .choice y) law i q b l in
+          let a = S.kept t spare cert (st y) (p .safe) (rel y) tasks free (plan .times y) drawn (plan .choice y) law i q b l in
+          let z = f .less in
+          let w = since-now i (f .place) (f .lives) in
           let k = w .ticks in
           let o = w .past in
           record { at = w .at; released = w .released; past = omega arith; ticks = omega arith; ahead = omega arith }
 
+      also-next : going .Also t next
+      also-next = going .again t (cert .good) (st y) (p .also) (rel y) tasks free (plan .times y) times (plan .choice y)
+          (λ k e. chosen-available t now (plan .choice y) law k e .1)
+          (S.kept t spare cert (st y) (p .safe) (rel y) tasks free (plan .times y) drawn (plan .choice y) law)
+
+      falls : (b : Bool) (m w : ℕ) → pick b (m - 1) (w - 1) ≡ cond b m w - 1
+      falls true m w = refl
+      falls false m w = refl
+
       pub moves : Now (suc y)
       unfolding clock
-      moves = subst (Before t (going .Force) plan (suc y)) (sym state-is) (record {
-        force = force;
-        safe = S.after-safe t spare cert costs (st y) safe (rel y) tasks free (plan .choice y) law;
+      moves = subst (Before t (going .Also) plan (suc y)) (sym state-is) (record {
+        also = also-next;
+        safe = S.after-safe t spare cert (st y) (p .safe) (rel y) tasks free (plan .times y) drawn (plan .choice y) law;
         waits = λ i b.
-            S.after-wait t spare cert costs (st y) safe (rel y) tasks free (plan .choice y) law i b
+            OneTick.after-wait t (cert .good) (st y) (p .safe .sound) (rel y) tasks free (plan .times y) drawn (plan .choice y) law i b
             ∙ ap (λ (w : ℕ). pick (bit (rel y) i) (T t i - 1) (w - 1)) (p .waits i b)
             ∙ falls (bit (rel y) i) (T t i) (clock (T t i) (λ a. bit (rel a) i) y);
         since = since-next;
       })
+
+      -- ---- a job that is live within the tick ends, its task named as finished, and is there no more; or it is there afterwards
+      pub onward : (i a : ℕ) → Lives t i a y (midAt kind file c plan y)
+          → ((bit (answerAt kind file c plan y .finished) i ≡ true) × (Held t i a (suc y) (st (suc y)) → ⊥)) ⊎ Held t i a (suc y) (st (suc y))
+      unfolding midAt
+      onward i a h = rw (state-is, done-is) (go (OneTick.onward t (cert .good) (st y) (p .safe .sound) (rel y) tasks free (plan .times y) drawn (plan .choice y) law i (h .place) (h .lives)))
         where
-          falls : (b : Bool) (m w : ℕ) → pick b (m - 1) (w - 1) ≡ cond b m w - 1
-          falls true m w = refl
-          falls false m w = refl
+          k : left now i (h .place) + y ≡ a + D t i
+          k = h .ticks
 
-      -- ---- a job that is live within the tick is named as finished, or it is live within the next, with a tick less
-      pub data Onward (i : ℕ) : Type 0 where
-        ends : bit (answerAt kind file c plan y .finished) i ≡ true → Onward i
-        lives : live (st (suc y)) i ≡ true → left (st (suc y)) i ≡ left (midAt kind file c plan y) i - 1 → Onward i
+          less : 1 ≤ left now i (h .place)
+          less = OneTick.ahead t (cert .good) (st y) (p .safe .sound) (rel y) tasks free (plan .times y) drawn i (h .place) (h .lives)
 
-      pub onward : (i : ℕ) → live (midAt kind file c plan y) i ≡ true → Onward i
-      onward i e = go (live next i) refl
+          go : OneTick.Onwards t (cert .good) (st y) (p .safe .sound) (rel y) tasks free (plan .times y) drawn (plan .choice y) law i (h .place)
+              → ((bit (finished (worked t now (rel y) (plan .choice y))) i ≡ true) × (Held t i a (suc y) next → ⊥)) ⊎ Held t i a (suc y) next
+          go (OneTick.ends f n) = inl (f, λ z. n (z .place) (z .among) (let e = z .ticks in omega (arith, k, less)))
+          go (OneTick.lives q l e) = inr (record { place = q; among = l; ticks = omega (arith, k, less) })
+
+      -- one that is there no more ran out: all that remained of it stands in the run list
+      ran-is : answerAt kind file c plan y .ran ≡ runList (plan .choice y)
+      unfolding answerAt ticked
+      ran-is = ap (λ (z : Ticked). z .answer .ran) tick-is
+
+      stood : (i p u : ℕ) → p < 4 → u < 16 → isIn (64 * i + 16 * p + u) (plan .choice y) ≡ true → Stood (answerAt kind file c plan y .ran) i p u
+      unfolding runList tripleOf
+      stood i p u h l e =
+          let r = in-at (plan .choice y) (64 * i + 16 * p + u) e in
+          let k = r .1 in
+          let most = at-most t now (plan .choice y) law in
+          let high = cert .good .m-high in
+          let b : r .0 < 8 = omega arith in
+          record {
+            at = r .0;
+            below = b;
+            there =
+                ap (λ (z : List Triple). getD z (r .0) nobody) ran-is
+                ∙ row-at 8 _ (r .0) nobody b
+                ∙ ap (λ (q : Bool). pick q (tripleOf (getD (plan .choice y) (r .0) 0)) nobody) (lt-ltb (r .0) (length (plan .choice y)) k)
+                ∙ ap tripleOf (r .2)
+                ∙ ap (λ (x : ℕ). record { task = x; age = ageIn (64 * i + 16 * p + u); vertex = vertexIn (64 * i + 16 * p + u) }) (name-task i p u h l)
+                ∙ ap (λ (x : ℕ). record { task = i; age = x; vertex = vertexIn (64 * i + 16 * p + u) }) (name-age i p u h l)
+                ∙ ap (λ (x : ℕ). record { task = i; age = p; vertex = x }) (name-vertex i p u h l);
+          }
+
+      pub ran-out : (i a : ℕ) → (Held t i a (suc y) (st (suc y)) → ⊥) → (h : Lives t i a y (midAt kind file c plan y)) (u : ℕ) → u < 16
+          → 1 ≤ remaining (midAt kind file c plan y) i (h .place) u
+          → (remaining (midAt kind file c plan y) i (h .place) u ≡ 1) × Stood (answerAt kind file c plan y .ran) i (h .place) u
+      unfolding midAt
+      ran-out i a none h u b some =
+          let r = OneTick.all-ran t (cert .good) (st y) (p .safe .sound) (rel y) tasks free (plan .times y) drawn (plan .choice y) law i (h .place) (h .lives) left-out u b some in
+          (r .0, stood i (h .place) u four b (r .1))
         where
-          l : live now i ≡ true
-          l = sym (ap (λ (s : State). live s i) mid-is) ∙ e
+          four : h .place < 4
+          four =
+              let k = OneTick.below t (cert .good) (st y) (p .safe .sound) (rel y) tasks free (plan .times y) drawn i (h .place) (h .lives) .1 in
+              let f = jobs-four now i in
+              omega arith
 
-          b : i < t .n
-          b = S.below t spare cert costs (st y) safe (rel y) tasks free i l
+          less : 1 ≤ left now i (h .place)
+          less = OneTick.ahead t (cert .good) (st y) (p .safe .sound) (rel y) tasks free (plan .times y) drawn i (h .place) (h .lives)
 
-          go : (q : Bool) → live next i ≡ q → Onward i
-          go true n = lives (ap (λ (s : State). live s i) state-is ∙ n) (ap (λ (s : State). left s i) state-is
-              ∙ S.after-left t spare cert costs (st y) safe (rel y) tasks free (plan .choice y) law i b n
-              ∙ ap (λ (s : State). left s i - 1) (sym mid-is))
-          go false n = ends (ap (λ (f : ℕ). bit f i) done-is ∙ S.after-idle t spare cert costs (st y) safe (rel y) tasks free (plan .choice y) law i b l n)
+          held : Held t i a (suc y) next → ⊥
+          held = rw state-is at none
+
+          left-out : (q : ℕ) → q < jobsOf next i → left next i q ≡ left now i (h .place) - 1 → ⊥
+          left-out q l e = held (record { place = q; among = l; ticks = let k = h .ticks in omega (arith, less) })
+
+      -- one that is there afterwards was live within the tick
+      pub back : (i a : ℕ) → i < t .n → Held t i a (suc y) (st (suc y)) → Lives t i a y (midAt kind file c plan y)
+      unfolding midAt
+      back i a b h = go (rw state-is at h)
+        where
+          go : Held t i a (suc y) next → Lives t i a y now
+          go z =
+              let f = OneTick.comes-from t (cert .good) (st y) (p .safe .sound) (rel y) tasks free (plan .times y) drawn (plan .choice y) law i (z .place) b (z .among) in
+              let less = OneTick.ahead t (cert .good) (st y) (p .safe .sound) (rel y) tasks free (plan .times y) drawn i (f .place) (f .lives) in
+              let e = f .less in
+              record { place = f .place; lives = f .lives; ticks = let k = z .ticks in omega arith }

@@ -8,7 +8,7 @@ use mathlib.Core.Path.{_≡_, refl, sym, ap, subst, _∙_}
 use mathlib.Core.Bool.{Bool, true, false}
 use mathlib.Core.List.{List}
 use mathlib.Core.Logic.{∥∥₁-map, Dec·and}
-use Prim.Native.Nat.{ℕ, zero, suc, _^_, _≤_, _<_}
+use Prim.Native.Nat.{ℕ, zero, suc, _-_, _^_, _≤_, _<_}
 use native.Mathlib.Omega.{arith}
 use lib.Dec.{ltb}
 use borrow.Author.Tests.{lt-ltb, ltb-true}
@@ -27,10 +27,10 @@ use Rattle.machine.specs.States.{opening}
 use Rattle.machine.specs.Steps.{released}
 use Rattle.machine.specs.Ticking.{tick}
 use Rattle.promise.specs.Runs.{tableOf, Sporadic, ownState, ownMid, ownAnswer}
-use Rattle.promise.specs.Demand3.{Within, Kept, Demand3Own, Fine, answered-0, refused-31, refused-33, AnyReleases, OldAccepts, SharpAccepts, none}
+use Rattle.promise.specs.Demand3.{Within, Lives, Ends, Kept, Demand3Own, Fine, answered-0, refused-31, refused-33, AnyReleases, OldAccepts, SharpAccepts, none}
 use Rattle.promise.specs.Calls.{Judges, SharpJudges, Opens, Ticks, Moves, Step, by-value, on-lent, Run, SaidYes, SharpSaidYes, CallsKept, CallsDemand3, CallsNever34}
 use Rattle.promise.proofs.Same.{out, state-discrete, answer-discrete}
-use Rattle.promise.proofs.OwnRun.{demand3-own, demand3-own-sharp}
+use Rattle.promise.proofs.OwnRun.{same-ran, demand3-own, demand3-own-sharp}
 use Rattle.promise.proofs.NoMiss.{any-releases, any-releases-sharp}
 
 -- WHAT A CONTRACT ALLOWS IS WHAT THE DEFINITION SAYS
@@ -95,9 +95,10 @@ module _ (N : ℕ) (named : ℕ → ℕ) where
     padded-within spare x mid w = record {
       chains = w .chains;
       unfinished = w .unfinished;
-      since = λ i l.
-          let s = w .since i l in
+      since = λ i p l.
+          let s = w .since i p l in
           record { at = s .at; released = named-by-call (s .at) i (s .released) .1; past = s .past; ticks = s .ticks; ahead = s .ahead };
+      apart = w .apart;
     }
 
 -- THE RUN IS THE MACHINE'S OWN on its release sets
@@ -124,6 +125,16 @@ module _ (file : List ℕ) (clock N : ℕ) (run : Run file clock N) where
   unfolding ownMid
   own-mid x b = rw (own-state x (omega arith), padded-at N (run .named) x b) refl
 
+  -- a job that ends in the machine's own run ends by the calls
+  calls-end : (i a y : ℕ) → y < N → Ends (tableOf file) (ownMid file clock sets) (ownAnswer file clock sets) N i a y
+      → Ends (tableOf file) (λ x. released (tableOf file) (run .state x) (run .named x)) (run .answer) (N - 1) i a y
+  calls-end i a y b d = record {
+    lives = λ z l h. subst (Lives (tableOf file) i a z) (sym (own-mid z (omega arith))) (d .lives z l h);
+    named = ap (λ (z : Answer). bit (z .finished) i) (own-answer y b) ∙ d .named;
+    ran = same-ran (tableOf file) i a y (sym (own-mid y b)) (sym (ap (λ (z : Answer). z .ran) (own-answer y b))) (d .ran);
+    gone = λ z l h w. d .gone z l (omega arith) (subst (Lives (tableOf file) i a z) (own-mid z (omega arith)) w);
+  }
+
   -- what the machine's own run keeps at each tick and after the last, the calls keep. A job whose deadline is within the N calls is finished by an
   -- answer of theirs.
   calls-kept : (spare : ℕ → ℕ) → ((x : ℕ) → Kept (tableOf file) spare sets (ownMid file clock sets) (ownAnswer file clock sets) x)
@@ -132,9 +143,10 @@ module _ (file : List ℕ) (clock N : ℕ) (run : Run file clock N) where
     within = λ x b. padded-within N (run .named) (tableOf file) spare x _ (subst (Within (tableOf file) spare sets x) (sym (own-mid x b)) (kept x .within));
     answered = λ y b. ap (λ (a : Answer). a .reply .number) (own-answer y b) ∙ kept N .answered y b;
     finished = λ i a b e l.
-        let f = kept N .finished i a b (ap (λ (set : ℕ). bit set i) (padded-at N (run .named) a b) ∙ e) l in
+        let f = kept N .finished i a (ap (λ (set : ℕ). bit set i) (padded-at N (run .named) a b) ∙ e) l in
         let early = f .2 in
-        (f .0, f .1, f .2, ap (λ (z : Answer). bit (z .finished) i) (own-answer (f .0) (omega (arith, early))) ∙ f .3);
+        let y : f .0 < N = omega arith in
+        (f .0, f .1, f .2, calls-end i a (f .0) y (f .3));
   }
 
 -- THE THEOREMS, for any verdict: where its function accepts only what it accepts, demand 3 of the machine's own run holds of the calls

@@ -34,11 +34,7 @@ module _ (file : List ℕ) (well : read file .outcome ≡ Read) (spare : ℕ →
   abbrev t : Table
   t = tableOf file
 
-  -- by the table's own costs
-  abbrev Fine : State → Type 0
-  Fine st = Safe t (t .costs) st
-
-  module _ (st : State) (p : Fine st) (x : Tick) (l : LegalTick file st x) where
+  module _ (st : State) (p : Safe t st) (x : Tick) (l : LegalTick file st x) where
     ok : Admitted (λ u s. x .chosen) t st (x .named)
     unfolding tableOf
     ok = legal-admitted file well st x l
@@ -57,23 +53,24 @@ module _ (file : List ℕ) (well : read file .outcome ≡ Read) (spare : ℕ →
         (ended (worked t (released t st (x .named)) (x .named) (x .chosen)))
     unfolding advance taking tableOf
     goes = on-file ∙ admitted-advances (λ u s. x .chosen) t st (x .named) ok
-        ∙ S.goes t spare cert (t .costs) st p (x .named) tasks free (x .chosen) (l .choice)
+        ∙ S.goes t spare cert st p (x .named) tasks free (t .costs) (stated-drawn t (t .costs) (λ k b. refl)) (x .chosen) (l .choice)
 
     answered : answerOf (tickWith file st x) ≡ 0
     unfolding answerOf ticked
     answered = ap (λ (z : Ticked). z .answer .reply .number) goes
 
-    next-safe : Fine (tickWith file st x .state)
+    next-safe : Safe t (tickWith file st x .state)
     unfolding ticked taking tableOf
-    next-safe = subst Fine (sym (ap (λ (z : Ticked). z .state) goes)) (S.after-safe t spare cert (t .costs) st p (x .named) tasks free (x .chosen) (l .choice))
+    next-safe = subst (Safe t) (sym (ap (λ (z : Ticked). z .state) goes))
+        (S.after-safe t spare cert st p (x .named) tasks free (t .costs) (stated-drawn t (t .costs) (λ k b. refl)) (x .chosen) (l .choice))
 
-  all-answered : (run : List Tick) (st : State) → Fine st → LegalRun file st run → EachAnswered0 file st run
+  all-answered : (run : List Tick) (st : State) → Safe t st → LegalRun file st run → EachAnswered0 file st run
   unfolding LegalRun EachAnswered0
   all-answered [] st p l = tt
   all-answered (x ∷ run) st p l = (answered st p x (l .0), all-answered run (tickWith file st x .state) (next-safe st p x (l .0)) (l .1))
 
-  opened : (c : ℕ) → c < 2 ^ 32 → Fine (opening file c .state)
-  opened c small = rw (opens file well c) (opened-safe t (cert .good) (t .costs) (stated-drawn t (t .costs) (λ k b. refl)) c small)
+  opened : (c : ℕ) → c < 2 ^ 32 → Safe t (opening file c .state)
+  opened c small = rw (opens file well c) (opened-safe t (cert .good) c small)
 
 pub no-miss-in-runs-by : (Accepts : List ℕ → Type 0) (spare : Table → ℕ → ℕ) → Backed Accepts spare → NoMissInRuns Accepts
 no-miss-in-runs-by Accepts spare backed file v c small run l =

@@ -1,31 +1,33 @@
--- WHAT THE TWO KINDS OF RUN SHARE: on a state that stands, and with releases that are due, a tick makes step 1 with the times drawn, then steps 4 to 6.
--- Of a stated run this is so because the state then fits and nothing is refused; of an early run it is how its tick is defined.
-use mathlib.Core.Path.{_≡_, refl, sym, ap, _∙_}
-use mathlib.Core.Bool.{true}
+-- WHAT THE TWO KINDS OF RUN SHARE: with releases that are due, a tick makes step 1 with the times drawn, then steps 4 to 6. Of a stated run this is so because
+-- its states stand, so they fit and nothing is refused; of an early run it is how its tick is defined.
+use mathlib.Core.Path.{_≡_, refl, sym, ap, subst, _∙_}
+use mathlib.Core.Bool.{Bool, true, false, _&&_}
 use mathlib.Core.List.{List}
-use Prim.Native.Nat.{ℕ, _+_, _*_, _≤_, _<_}
+use Prim.Native.Nat.{ℕ, _^_, _≤_, _<_}
 use native.Mathlib.Omega.{arith}
 use lib.ListN.{getD}
 use lib.Dec.{ltb, leb}
-use borrow.Author.Tests.{ltb-true, leb-true}
-use Rattle.graph.specs.Words.{bit}
-use Rattle.graph.proofs.Facts.{both-true, off-when}
+use borrow.Author.Tests.{ltb-true, leb-true, ltb-false, leb-false}
+use Rattle.graph.specs.Words.{bit, isIn}
+use Rattle.graph.proofs.Facts.{clash, both-true, off-when}
+use Rattle.graph.proofs.Members.{held-below}
 use Rattle.table.specs.declared.Table.{Table}
 use Rattle.table.specs.declared.Outcome.{Outcome}
 use Rattle.table.specs.declared.Outcome.the-variants.{Read}
-use Rattle.table.specs.Memory.{cost}
 use Rattle.table.specs.Numbers.{number, place}
 use Rattle.table.specs.Reading.{whenRead, read}
 use Rattle.table.specs.Good.{GoodTable}
 use Rattle.machine.specs.declared.Phase.the-variants.{Running}
 use Rattle.machine.specs.declared.State.{State}
-use Rattle.machine.specs.States.{wait, zeros, unopened, openRead, opening}
-use Rattle.machine.specs.Steps.{released, worked}
+use Rattle.machine.specs.States.{wait, jobsOf, left, zeros, unopened, openRead, opening}
+use Rattle.machine.specs.Steps.{released, available, worked, ended}
 use Rattle.machine.specs.Ticking.{advanceTo, advance, refuse, tickOn, tickRead, tickBy}
 use Rattle.machine.proofs.Cases.{beyond, tooSoon, Admitted, admitted-advances}
-use Rattle.machine.proofs.Standing.{Standing, stands-fits}
+use Rattle.machine.proofs.Standing.{Standing, opened-stands, stands-fits}
+use Rattle.machine.proofs.Within.{mid}
+use Rattle.machine.proofs.Moving.{ran, next, next-stands}
 use Rattle.promise.specs.Runs.{tableOf, taking, Kind, stated, early, Drawn}
-use Rattle.promise.proofs.Costs.{stated-drawn, taking-own, other-costs, drawing, either-way, drawing-drawn}
+use Rattle.promise.proofs.Costs.{stated-drawn, taking-own}
 
 -- ---- a file that is read
 module _ (file : List ℕ) (well : read file .outcome ≡ Read) where
@@ -40,7 +42,7 @@ module _ (file : List ℕ) (well : read file .outcome ≡ Read) where
 -- ---- releases that are due, on a state that stands, are not refused
 module _ (t : Table) (good : GoodTable t) (st : State) (s : Standing t st) (named : ℕ)
     (tasks : (i : ℕ) → bit named i ≡ true → i < t .n) (free : (i : ℕ) → bit named i ≡ true → wait st i ≡ 0) (choose : Table → State → List ℕ) where
-  pub admitted : Admitted choose t st named
+  admitted : Admitted choose t st named
   unfolding beyond tooSoon
   admitted = record {
     fitting = stands-fits t good st s;
@@ -57,58 +59,93 @@ module _ (t : Table) (good : GoodTable t) (st : State) (s : Standing t st) (name
         omega arith);
   }
 
-  pub on-table : tickOn choose t st named ≡ advanceTo (choose t (released t st named)) (worked t (released t st named) named (choose t (released t st named)))
+  on-table : tickOn choose t st named ≡ advanceTo (choose t (released t st named)) (worked t (released t st named) named (choose t (released t st named)))
   unfolding advance
   on-table = admitted-advances choose t st named admitted
 
--- ---- a kind of run, by the costs that are in force
+-- ---- and releases that are not refused are due: they name tasks of the file whose wait is 0
+not-both : (a b : Bool) → a && b ≡ false → a ≡ true → b ≡ false
+not-both true b h e = h
+not-both false b h e = absurd (clash e refl)
+
+module _ (choose : Table → State → List ℕ) (t : Table) (st : State) (named : ℕ) (small : named < 2 ^ 16) (a : Admitted choose t st named) where
+  pub names-tasks : (i : ℕ) → bit named i ≡ true → i < t .n
+  unfolding beyond
+  names-tasks i e = leb-false (t .n) i (not-both (bit named i) _ (a .tasks i (held-below named i small e)) e)
+
+  pub finds-free : (i : ℕ) → bit named i ≡ true → wait st i ≡ 0
+  unfolding tooSoon
+  finds-free i e = let z = ltb-false 0 (wait st i) (not-both (bit named i) _ (a .free i (names-tasks i e)) e) in omega arith
+
+-- ---- the state within a tick, and that after it
+abbrev pub within : Table → State → ℕ → List ℕ → State
+within t st named times = released (taking t times) st named
+
+abbrev pub after : Table → State → ℕ → List ℕ → List ℕ → State
+after t st named times chosen = ended (worked t (within t st named times) named chosen)
+
+-- ---- a kind of run, by what is true of its states beside that they are safe
 pub record Going (kind : Kind) : Type 1 where
-  -- which they may be: at first the table's; then what releases draw
-  pub Force : Table → List ℕ → Type 0
-  pub first : (t : Table) → Force t (t .costs)
-  pub draws : (t : Table) (named : ℕ) (times c : List ℕ) → kind .Times t times → Force t c → Force t (drawing named times c)
-  pub drawn : (t : Table) (c : List ℕ) → Force t c → Drawn t c
-  -- and how a tick goes
-  pub goes : (file : List ℕ) → read file .outcome ≡ Read → GoodTable (tableOf file)
-      → (c : List ℕ) → Force (tableOf file) c → (st : State) → Standing (taking (tableOf file) c) st
+  pub Also : Table → State → Type 0
+  pub first : (t : Table) → GoodTable t → (c : ℕ) → c < 2 ^ 32 → Also t (zeros c Running)
+  pub drawn : (t : Table) (times : List ℕ) → kind .Times t times → Drawn t times
+  -- how a tick goes
+  pub goes : (file : List ℕ) → read file .outcome ≡ Read → GoodTable (tableOf file) → (st : State) → Also (tableOf file) st
       → (named : ℕ) → ((i : ℕ) → bit named i ≡ true → i < tableOf file .n) → ((i : ℕ) → bit named i ≡ true → wait st i ≡ 0)
       → (times : List ℕ) → kind .Times (tableOf file) times → (chosen : List ℕ)
-      → kind .tick file st named times chosen ≡ advanceTo chosen (worked (tableOf file) (released (taking (tableOf file) times) st named) named chosen)
+      → kind .tick file st named times chosen ≡ advanceTo chosen (worked (tableOf file) (within (tableOf file) st named times) named chosen)
+  -- and that it is true again where no deadline is missed
+  pub again : (t : Table) → GoodTable t → (st : State) → Also t st
+      → (named : ℕ) → ((i : ℕ) → bit named i ≡ true → i < t .n) → ((i : ℕ) → bit named i ≡ true → wait st i ≡ 0)
+      → (times : List ℕ) → kind .Times t times
+      → (chosen : List ℕ) → ((k : ℕ) → isIn k chosen ≡ true → available t (within t st named times) k ≡ true)
+      → ((i q : ℕ) → i < t .n → q < jobsOf (after t st named times chosen) i → 1 ≤ left (after t st named times chosen) i q)
+      → Also t (after t st named times chosen)
 
--- stated: the costs in force are the table's
-abbrev pub AsStated : Table → List ℕ → Type 0
-AsStated t c = (k : ℕ) → k < 256 → getD c k 0 ≡ getD (t .costs) k 0
+-- stated: the states stand
+own-within : (t : Table) (st : State) (named : ℕ) (times : List ℕ) → times ≡ t .costs → released t st named ≡ within t st named times
+own-within t st named times e = ap (λ (d : Table). released d st named) (sym (ap (taking t) e ∙ taking-own t))
 
-by-table : (t : Table) → t .n ≤ 16 → (c : List ℕ) → AsStated t c → (st : State) → Standing (taking t c) st → Standing t st
-unfolding cost taking
-by-table t n c same st s = other-costs t c (t .costs) st (λ i u b e h. let k : 16 * i + u < 256 = omega arith in same (16 * i + u) k) s
-
-stated-goes : (file : List ℕ) → read file .outcome ≡ Read → GoodTable (tableOf file)
-    → (c : List ℕ) → AsStated (tableOf file) c → (st : State) → Standing (taking (tableOf file) c) st
+stated-goes : (file : List ℕ) → read file .outcome ≡ Read → GoodTable (tableOf file) → (st : State) → Standing (tableOf file) st
     → (named : ℕ) → ((i : ℕ) → bit named i ≡ true → i < tableOf file .n) → ((i : ℕ) → bit named i ≡ true → wait st i ≡ 0)
     → (times : List ℕ) → times ≡ tableOf file .costs → (chosen : List ℕ)
-    → tickBy (λ t s. chosen) file st named ≡ advanceTo chosen (worked (tableOf file) (released (taking (tableOf file) times) st named) named chosen)
-stated-goes file well good c same st s named tasks free times e chosen =
+    → tickBy (λ t s. chosen) file st named ≡ advanceTo chosen (worked (tableOf file) (within (tableOf file) st named times) named chosen)
+stated-goes file well good st s named tasks free times e chosen =
     ticks file well (λ t s. chosen) st named
-    ∙ on-table (tableOf file) good st (by-table (tableOf file) (good .n-high) c same st s) named tasks free (λ t s. chosen)
-    ∙ ap (λ (d : Table). advanceTo chosen (worked (tableOf file) (released d st named) named chosen))
-    (sym (ap (taking (tableOf file)) e ∙ taking-own (tableOf file)))
+    ∙ on-table (tableOf file) good st s named tasks free (λ t s. chosen)
+    ∙ ap (λ (m : State). advanceTo chosen (worked (tableOf file) m named chosen)) (own-within (tableOf file) st named times e)
+
+module _ (t : Table) (good : GoodTable t) (st : State) (s : Standing t st) (named : ℕ)
+    (tasks : (i : ℕ) → bit named i ≡ true → i < t .n) (free : (i : ℕ) → bit named i ≡ true → wait st i ≡ 0) (chosen : List ℕ) where
+  pub own : ((k : ℕ) → isIn k chosen ≡ true → available t (released t st named) k ≡ true)
+      → ((i q : ℕ) → i < t .n → q < jobsOf (ended (worked t (released t st named) named chosen)) i → 1 ≤ left (ended (worked t (released t st named) named chosen)) i q)
+      → Standing t (ended (worked t (released t st named) named chosen))
+  unfolding next ran mid
+  own only kept = next-stands t good st s named tasks free chosen only kept
+
+  -- where the state within the tick is the one that the releases of the table itself make
+  stated-by : (m : State) → released t st named ≡ m → ((k : ℕ) → isIn k chosen ≡ true → available t m k ≡ true)
+      → ((i q : ℕ) → i < t .n → q < jobsOf (ended (worked t m named chosen)) i → 1 ≤ left (ended (worked t m named chosen)) i q)
+      → Standing t (ended (worked t m named chosen))
+  stated-by m e = subst (λ (m : State). ((k : ℕ) → isIn k chosen ≡ true → available t m k ≡ true)
+      → ((i q : ℕ) → i < t .n → q < jobsOf (ended (worked t m named chosen)) i → 1 ≤ left (ended (worked t m named chosen)) i q)
+      → Standing t (ended (worked t m named chosen))) e own
 
 pub stated-going : Going stated
 stated-going = record {
-  Force = AsStated;
-  first = λ t k b. refl;
-  draws = λ t named times c e same k b. either-way named times c (λ z. z ≡ getD (t .costs) k 0) k b (ap (λ (l : List ℕ). getD l k 0) e) (same k b);
-  drawn = stated-drawn;
+  Also = Standing;
+  first = opened-stands;
+  drawn = λ t times e. stated-drawn t times (λ k b. ap (λ (l : List ℕ). getD l k 0) e);
   goes = stated-goes;
+  again = λ t good st s named tasks free times e chosen only kept. stated-by t good st s named tasks free chosen (within t st named times) (own-within t st named times e) only kept;
 }
 
--- early: they are drawn within the table's
+-- early: nothing more
 pub early-going : Going early
 early-going = record {
-  Force = Drawn;
-  first = λ t. stated-drawn t (t .costs) (λ k b. refl);
-  draws = drawing-drawn;
-  drawn = λ t c h. h;
-  goes = λ file well good c force st s named tasks free times e chosen. refl;
+  Also = λ t st. Unit;
+  first = λ t good c h. tt;
+  drawn = λ t times h. h;
+  goes = λ file well good st s named tasks free times e chosen. refl;
+  again = λ t good st s named tasks free times e chosen only kept. tt;
 }

@@ -5,6 +5,7 @@ use mathlib.Core.List.{List}
 use Prim.Native.Nat.{ℕ, zero, suc, _^_, _<_}
 use native.Mathlib.Omega.{arith}
 use Rattle.graph.specs.Words.{bit}
+use Rattle.graph.proofs.Facts.{clash}
 use Rattle.table.specs.declared.Table.{Table}
 use Rattle.table.specs.declared.Outcome.the-variants.{Read}
 use Rattle.table.specs.Reading.{read}
@@ -14,58 +15,67 @@ use Rattle.machine.specs.States.{wait}
 use Rattle.machine.specs.Steps.{released, ownChoice, Legal}
 use Rattle.machine.specs.Ticking.{ticked, advance, refuse, tickOn, tick}
 use Rattle.machine.proofs.Own.{own-legal}
-use Rattle.machine.proofs.Standing.{Standing}
+use Rattle.machine.proofs.Standing.{Standing, opened-stands, stands-fits}
+use Rattle.machine.proofs.Cases.{running-stopped, Admitted, Case, unfit, halted, no-task, early, misses, goes-on, cases, admitted-advances}
 use Rattle.promise.specs.Runs.{tableOf, taking, ownState}
 use Rattle.promise.specs.Demand3.{Fine, answered-0, refused-31, refused-33, AnyReleases, OldAccepts, SharpAccepts, none}
 use Rattle.promise.proofs.Certified.{Certified, Backed, old-backed}
 use Rattle.promise.proofs.Sharpened.{sharp-backed}
 use Rattle.promise.proofs.Costs.{stated-drawn}
-use Rattle.promise.proofs.Moves.{opens, ticks}
-use Rattle.promise.proofs.Cases.{Case, no-task, too-soon, goes, tick-case, same-state}
+use Rattle.promise.proofs.Count.{chosen-available}
+use Rattle.promise.proofs.Moves.{opens, ticks, names-tasks, finds-free, own}
 use Rattle.promise.proofs.Safe as S
 use Rattle.promise.proofs.Safe.{Safe, opened-safe}
 
--- a refusal's number
-refuse-number : (st : State) (n p k : ℕ) → refuse st n p k .answer .reply .number ≡ n
-unfolding refuse
-refuse-number st n p k = refl
+-- a state of the machine's own run is safe, and it stands
+pub record Well (t : Table) (st : State) : Type 0 where
+  pub safe : Safe t st
+  pub stands : Standing t st
 
-module _ (t : Table) (spare : ℕ → ℕ) (cert : Certified t spare) (st : State) (p : Safe t (t .costs) st) (named : ℕ) (small : named < 2 ^ 16) where
-  -- it stands by the table's own costs
-  stands : Standing t st
-  unfolding taking
-  stands = p .stands
-
+module _ (t : Table) (spare : ℕ → ℕ) (cert : Certified t spare) (st : State) (p : Well t st) (named : ℕ) (small : named < 2 ^ 16) where
   After : Ticked → Type 0
-  After x = Fine st x × Safe t (t .costs) (x .state)
+  After x = Fine st x × Well t (x .state)
 
   -- the releases are due: it is answered 0
   went : (chosen : List ℕ) → Legal t (released t st named) chosen → ((i : ℕ) → bit named i ≡ true → i < t .n) → ((i : ℕ) → bit named i ≡ true → wait st i ≡ 0)
       → (x : Ticked) → x ≡ advance t st named chosen → After x
   unfolding After advance taking ticked
   went chosen legal tasks free x e =
-      let q = e ∙ S.goes t spare cert (t .costs) st p named tasks free chosen legal in (
+      let drawn = stated-drawn t (t .costs) (λ k b. refl) in
+      let q = e ∙ S.goes t spare cert st (p .safe) named tasks free (t .costs) drawn chosen legal in (
         answered-0 (ap (λ (z : Ticked). z .answer .reply .number) q),
-        subst (Safe t (t .costs)) (sym (ap (λ (z : Ticked). z .state) q)) (S.after-safe t spare cert (t .costs) st p named tasks free chosen legal),
+        subst (Well t) (sym (ap (λ (z : Ticked). z .state) q)) (record {
+          safe = S.after-safe t spare cert st (p .safe) named tasks free (t .costs) drawn chosen legal;
+          stands = own t (cert .good) st (p .stands) named tasks free chosen
+              (λ k h. chosen-available t (released t st named) chosen legal k h .1)
+              (S.kept t spare cert st (p .safe) named tasks free (t .costs) drawn chosen legal);
+        }),
       )
 
-  one : After (tickOn ownChoice t st named)
+  -- a refusal leaves the state as it was
+  refused : (x : Ticked) (n y : ℕ) → x ≡ refuse st n 0 y → (x .answer .reply .number ≡ n) × (x .state ≡ st)
+  unfolding refuse
+  refused x n y e = (ap (λ (z : Ticked). z .answer .reply .number) e, ap (λ (z : Ticked). z .state) e)
+
+  still : (x : Ticked) → Fine st x → x .state ≡ st → After x
   unfolding After
-  one = go (tick-case t (cert .good) ownChoice st stands named small)
+  still x f e = (f, subst (Well t) (sym e) p)
+
+  -- one that is not refused names tasks of the file whose wait is 0
+  due : Admitted ownChoice t st named → After (tickOn ownChoice t st named)
+  due a = went (ownChoice t (released t st named)) (own-legal t (released t st named))
+      (names-tasks ownChoice t st named small a) (finds-free ownChoice t st named small a) _ (admitted-advances ownChoice t st named a)
+
+  one : After (tickOn ownChoice t st named)
+  one = go (cases ownChoice t st named)
     where
-      stays : (n y : ℕ) → tickOn ownChoice t st named ≡ refuse st n 0 y → tickOn ownChoice t st named .state ≡ st
-      stays n y e = ap (λ (z : Ticked). z .state) e ∙ same-state st n 0 y
-
-      says : (n y : ℕ) → tickOn ownChoice t st named ≡ refuse st n 0 y → tickOn ownChoice t st named .answer .reply .number ≡ n
-      says n y e = ap (λ (z : Ticked). z .answer .reply .number) e ∙ refuse-number st n 0 y
-
-      still : Fine st (tickOn ownChoice t st named) → tickOn ownChoice t st named .state ≡ st → After (tickOn ownChoice t st named)
-      still f e = (f, subst (Safe t (t .costs)) (sym e) p)
-
-      go : Case t ownChoice st named → After (tickOn ownChoice t st named)
-      go (no-task y e) = still (refused-31 (says 31 y e) (stays 31 y e)) (stays 31 y e)
-      go (too-soon y e) = still (refused-33 (says 33 y e) (stays 33 y e)) (stays 33 y e)
-      go (goes tasks free e) = went (ownChoice t (released t st named)) (own-legal t (released t st named)) tasks free _ e
+      go : Case ownChoice t st named (tickOn ownChoice t st named) → After (tickOn ownChoice t st named)
+      go (unfit e q) = absurd (clash (stands-fits t (cert .good) st (p .stands)) e)
+      go (halted e k f q) = absurd (running-stopped (st .phase) k (p .stands .running) f)
+      go (no-task e f i l q) = let r = refused _ 31 i q in still _ (refused-31 (r .0) (r .1)) (r .1)
+      go (early e f n i l q) = let r = refused _ 33 i q in still _ (refused-33 (r .0) (r .1)) (r .1)
+      go (misses a i l q) = due a
+      go (goes-on a n q) = due a
 
 -- THE PROOF
 module _ (file : List ℕ) (well : read file .outcome ≡ Read) (spare : ℕ → ℕ) (cert : Certified (tableOf file) spare)
@@ -77,15 +87,15 @@ module _ (file : List ℕ) (well : read file .outcome ≡ Read) (spare : ℕ →
   unfolding tick
   ticked-well st named = ticks file well ownChoice st named
 
-  fine : (x : ℕ) → Safe t (t .costs) (ownState file c rel x)
-      → Fine (ownState file c rel x) (tick file (ownState file c rel x) (rel x)) × Safe t (t .costs) (tick file (ownState file c rel x) (rel x) .state)
+  fine : (x : ℕ) → Well t (ownState file c rel x)
+      → Fine (ownState file c rel x) (tick file (ownState file c rel x) (rel x)) × Well t (tick file (ownState file c rel x) (rel x) .state)
   unfolding After
-  fine x p = subst (λ (z : Ticked). Fine (ownState file c rel x) z × Safe t (t .costs) (z .state)) (sym (ticked-well (ownState file c rel x) (rel x)))
+  fine x p = subst (λ (z : Ticked). Fine (ownState file c rel x) z × Well t (z .state)) (sym (ticked-well (ownState file c rel x) (rel x)))
       (one t spare cert (ownState file c rel x) p (rel x) (bits x))
 
-  all-safe : (x : ℕ) → Safe t (t .costs) (ownState file c rel x)
+  all-safe : (x : ℕ) → Well t (ownState file c rel x)
   unfolding ownState
-  all-safe zero = rw (opens file well c) (opened-safe t (cert .good) (t .costs) (stated-drawn t (t .costs) (λ k b. refl)) c small)
+  all-safe zero = rw (opens file well c) (record { safe = opened-safe t (cert .good) c small; stands = opened-stands t (cert .good) c small })
   all-safe (suc x) = fine x (all-safe x) .1
 
   pub each-fine : (x : ℕ) → Fine (ownState file c rel x) (tick file (ownState file c rel x) (rel x))

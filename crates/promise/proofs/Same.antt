@@ -11,11 +11,12 @@ use Rattle.machine.specs.declared.State.{State}
 use Rattle.machine.specs.declared.Phase.{Phase}
 use Rattle.machine.specs.declared.Phase.the-variants.{Running, Stopped}
 use Rattle.machine.specs.declared.TaskState.{TaskState}
-use Rattle.machine.specs.declared.Activity.{Activity}
-use Rattle.machine.specs.declared.Activity.the-variants.{Idle, Live}
+use Rattle.machine.specs.declared.Job.{Job}
+use Rattle.machine.specs.declared.Job.the-variants.{Nothing, Live}
+use Rattle.machine.specs.declared.Place.{Place}
 use Rattle.machine.specs.declared.Answer.{Answer}
 use Rattle.machine.specs.declared.Reply.{Reply}
-use Rattle.machine.specs.declared.Pair.{Pair}
+use Rattle.machine.specs.declared.Triple.{Triple}
 
 -- a decidable thing that is asserted to hold does hold
 pub out : {P : Type 0} → Dec P → ∥ P ∥₁ → P
@@ -47,25 +48,31 @@ phase-again (Stopped k) = refl
 phase-discrete : Discrete Phase
 phase-discrete = by-code phase-code phase-back phase-again ℕ-discrete
 
--- A TASK: idle is 0 and its wait, live is its deadline + 1 and its wait
-task-code : Activity → ℕ × ℕ
-task-code (Idle w) = (0, w)
-task-code (Live d w) = (suc d, w)
+-- A JOB: none is 0, a live one is its deadline + 1
+job-code : Job → ℕ
+job-code Nothing = 0
+job-code (Live d) = suc d
 
-activity : ℕ → ℕ → Activity
-activity zero w = Idle w
-activity (suc d) w = Live d w
+job-back : ℕ → Job
+job-back zero = Nothing
+job-back (suc d) = Live d
 
-task-again : (a : Activity) → activity (task-code a .0) (task-code a .1) ≡ a
-unfolding task-code activity
-task-again (Idle w) = refl
-task-again (Live d w) = refl
+job-again : (j : Job) → job-back (job-code j) ≡ j
+unfolding job-code job-back
+job-again Nothing = refl
+job-again (Live d) = refl
 
+place-discrete : Discrete Place
+place-discrete =
+    by-code (λ p. job-code (p .job)) (λ c. record { job = job-back c })
+    (λ p. ap (λ (j : Job). record { job = j }) (job-again (p .job)))
+    ℕ-discrete
+
+-- A TASK: its wait and its places
 task-discrete : Discrete TaskState
 task-discrete =
-    by-code (λ t. task-code (t .activity)) (λ c. record { activity = activity (c .0) (c .1) })
-    (λ t. ap (λ (a : Activity). record { activity = a }) (task-again (t .activity)))
-    (×-discrete ℕ-discrete ℕ-discrete)
+    by-code (λ t. (t .wait, t .jobs)) (λ c. record { wait = c .0; jobs = c .1 }) (λ t. refl)
+    (×-discrete ℕ-discrete (List-discrete place-discrete))
 
 -- A STATE
 pub state-discrete : Discrete State
@@ -81,10 +88,12 @@ reply-discrete =
     by-code (λ r. (r .number, (r .place, r .task))) (λ c. record { number = c .0; place = c .1 .0; task = c .1 .1 }) (λ r. refl)
     (×-discrete ℕ-discrete (×-discrete ℕ-discrete ℕ-discrete))
 
-pair-discrete : Discrete Pair
-pair-discrete = by-code (λ p. (p .task, p .vertex)) (λ c. record { task = c .0; vertex = c .1 }) (λ p. refl) (×-discrete ℕ-discrete ℕ-discrete)
+triple-discrete : Discrete Triple
+triple-discrete =
+    by-code (λ x. (x .task, (x .age, x .vertex))) (λ c. record { task = c .0; age = c .1 .0; vertex = c .1 .1 }) (λ x. refl)
+    (×-discrete ℕ-discrete (×-discrete ℕ-discrete ℕ-discrete))
 
 pub answer-discrete : Discrete Answer
 answer-discrete =
     by-code (λ a. (a .reply, (a .ran, a .finished))) (λ c. record { reply = c .0; ran = c .1 .0; finished = c .1 .1 }) (λ a. refl)
-    (×-discrete reply-discrete (×-discrete (List-discrete pair-discrete) ℕ-discrete))
+    (×-discrete reply-discrete (×-discrete (List-discrete triple-discrete) ℕ-discrete))

@@ -1,5 +1,5 @@
 -- RUNS OF A FILE, tick by tick, as demand 3 speaks of them: document 01, "For demand 3, a legal tick is ..", and document 02, M-108, "Steps that
--- end early". Ticks are counted 0, 1, 2, .. in true time, which does not wrap; the machine's clock does.
+-- end early", and M-109, "Deadlines longer than the period". Ticks are counted 0, 1, 2, .. in true time, which does not wrap; the machine's clock does.
 use mathlib.Core.Path.{_≡_}
 use mathlib.Core.Bool.{true}
 use mathlib.Core.List.{List}
@@ -26,7 +26,7 @@ pub record Plan : Type 0 where
   pub rel : ℕ → ℕ
   -- the times of the jobs that are released: each vertex's at sixteen times task plus vertex
   pub times : ℕ → List ℕ
-  -- the vertices that run, each as 16 * task + vertex
+  -- the vertices that run, each as 64 * task + 16 * age place + vertex; age places are counted "once the tick's releases are made" (M-109)
   pub choice : ℕ → List ℕ
 
 -- SPACING in the first N ticks, in true time and not by the machine's own waits
@@ -36,7 +36,8 @@ pub record Sporadic (t : Table) (rel : ℕ → ℕ) (N : ℕ) : Type 0 where
   -- of two releases of one task, at ticks x and y, the later comes at least its period T after the earlier
   pub apart : (i x y : ℕ) → x < y → y < N → bit (rel x) i ≡ true → bit (rel y) i ≡ true → x + T t i ≤ y
 
--- STEP 1 WITH OTHER TIMES: "Each named task becomes live, its costs remaining", where the costs are these
+-- STEP 1 WITH OTHER TIMES: "Each named task becomes live, its costs remaining", where the costs are these. It reads those of named tasks alone, for their
+-- new jobs: the jobs that are live already go on with what they drew.
 unfoldable pub taking : Table → List ℕ → Table
 taking t times = record { m = t .m; n = t .n; tasks = t .tasks; costs = times }
 
@@ -56,7 +57,7 @@ pub record Drawn (t : Table) (times : List ℕ) : Type 0 where
 
 -- "unknown to the scheduler until it ends": what is available goes by what has ended, as it stands in step 2, and the choice is any legal
 -- one, so also one that knows no times. Only step 1 differs; steps 4 to 6 are document 01's. (That a state fits its table is not asked: what remains
--- is not the table's costs.)
+-- is not the table's costs.) Each job draws times of its own, also where one of its task is live already.
 abbrev pub early : Kind
 early = record {
   Times = Drawn;

@@ -1,5 +1,6 @@
 -- SPACING IN TRUE TIME, for every file that is read, accepted or not. Document 01, "Errors that look right": "Spacing found by subtracting
--- a stored release tick: wrong after an idle spell longer than the clock's round." The machine's spacing is right after any idle spell.
+-- a stored release tick: wrong after an idle spell longer than the clock's round." The machine's spacing is right after any idle spell, and while jobs of
+-- the task are live: "The task keeps its wait apart from its jobs" (M-109).
 use mathlib.Core.Path.{_≡_}
 use mathlib.Core.Logic.{_⊎_}
 use mathlib.Core.Bool.{true}

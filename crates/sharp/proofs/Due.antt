@@ -1,15 +1,15 @@
 -- THE SHARP DUE WORK of a good table: no more than the old due work, and what bounds the margin's low end. Each job asks for its volume at most; one of
--- another task that ends h periods before D has D - h ticks at most for each vertex; and of its own job, the longest chain left out, every vertex
--- asks for its cost at most, while along the longest chain all that is asked for fits into D.
-use mathlib.Core.Path.{_≡_, refl, sym, ap, _∙_}
-use mathlib.Core.Bool.{Bool, true}
+-- another task that ends h periods before D has D - h ticks at most for each vertex; and of its own four jobs, the longest chain left out, every vertex
+-- asks for its cost at most, while along the longest chain all that is asked for fits into the ticks that the job has.
+use mathlib.Core.Path.{_≡_, refl}
+use mathlib.Core.Bool.{Bool}
 use mathlib.Core.List.{List, [], _∷_}
 use Prim.Native.Nat.{ℕ, zero, suc, _+_, _*_, _-_, _≤_, _<_, min}
 use native.Mathlib.Omega.{arith}
-use native.Mathlib.Nat.{mul-comm, mul-suc, mul-add, mul-le-mul, mul-le-mul-left, mul-le-mul-right}
+use native.Mathlib.Nat.{mul-comm, mul-suc, mul-le-mul-left}
 use lib.ListN.{length}
 use Rattle.graph.specs.Words.{sum}
-use Rattle.graph.specs.Graph.{Chain, alone, joined, sumAlong}
+use Rattle.graph.specs.Graph.{Chain, joined, sumAlong}
 use Rattle.graph.proofs.Facts.{sum-le, sum-same, sum-first, sum-add}
 use Rattle.graph.proofs.Long.{longest-reached, chain-head}
 use Rattle.graph.proofs.Rank.{rank}
@@ -19,7 +19,7 @@ use Rattle.table.specs.declared.Table.{Table}
 use Rattle.table.specs.Memory.{vertices, D, T, succ, edgeIn, cost}
 use Rattle.table.specs.Good.{GoodTable}
 use Rattle.verdict.specs.Verdicts.{vol, len, roundedUp, due}
-use Rattle.verdict.proofs.Amounts.{sum-most, sum-but-one, sum-part, up-most, up-one, along-most, climbs, due-bound}
+use Rattle.verdict.proofs.Amounts.{sum-most, sum-but-one, sum-part, up-most, along-most, climbs, own-jobs, due-bound}
 use Rattle.sharp.specs.Sharp.{tailOf, asked, dueFrom, sharpDue}
 use Rattle.sharp.proofs.Sums.{sum-const}
 use Rattle.sharp.proofs.Tails.{tail-means}
@@ -54,9 +54,13 @@ module _ (t : Table) (k : ℕ) where
   sharp-within = sum-le (t .n) _ _ (λ i l. from-within i)
 
 -- so is that of the first tasks, as code needs it
-pub sharp-part : (t : Table) → GoodTable t → (k j : ℕ) → k < t .n → j ≤ t .n → sum j (dueFrom t k) ≤ 240000016000000
+pub sharp-part : (t : Table) → GoodTable t → (k j : ℕ) → k < t .n → j ≤ t .n → sum j (dueFrom t k) ≤ 240000064000000
 unfolding sharpDue
 sharp-part t good k j b l = omega (arith, sum-part j (t .n) (dueFrom t k) l, sharp-within t k, due-bound t good k b)
+
+four : (f : ℕ → ℕ) → sum 4 f ≡ f 0 + f 1 + f 2 + f 3
+unfolding sum
+four f = omega arith
 
 -- ---- ANOTHER TASK: 16 · (D + (D - 1) + .. + 1) at most
 stairs : (n : ℕ) → sum n (λ h. 16 * (n - h)) ≡ 8 * (n * (n + 1))
@@ -94,46 +98,51 @@ module _ (t : Table) (good : GoodTable t) (k : ℕ) (b : k < t .n) where
         stairs (D t k),
       )
 
-  -- ---- ITS OWN JOB: the one that is due in D ticks
-  abbrev want : ℕ → ℕ
-  want u = min (cost t k u) (D t k - tailOf t k u)
+  -- ---- ITS OWN JOBS, in a window of x ticks: D less so many periods
+  module _ (x : ℕ) where
+    abbrev want : ℕ → ℕ
+    want u = min (cost t k u) (x - tailOf t k u)
 
-  own-is : dueFrom t k k ≡ sum (vertices t k) want
-  unfolding dueFrom asked sum
-  own-is =
-      let e = sum-same (vertices t k) (λ u. min (cost t k u) (D t k - 0 * T t k - tailOf t k u)) want (λ u l. omega arith) in
-      ap (λ (n : ℕ). sum n (λ h. sum (vertices t k) (asked t k k h))) (up-one (D t k) (T t k) (good .each k b .D-low) (good .each k b .D-T))
-      ∙ omega (arith, e)
+    -- along a chain what is asked for is within the window: what follows a vertex has its tail at most
+    along : (c : List ℕ) → Chain (vertices t k) (edgeIn t k) c → (sumAlong want c ≤ x) × (sumAlong want c ≤ sumAlong (cost t k) c)
+    unfolding sumAlong
+    along [] p = absurd (none-chain p)
+    along (u ∷ []) p = (omega arith, omega arith)
+    along (u ∷ w ∷ c) (joined h e p) =
+        let r = along (w ∷ c) p in
+        let q = tail-means t good k b u .bounds (w ∷ c) (after e p) in
+        (omega (arith, r .0, r .1, q), omega (arith, r .1))
 
-  -- along a chain it is within D: what follows a vertex has its tail at most
-  along : (c : List ℕ) → Chain (vertices t k) (edgeIn t k) c → (sumAlong want c ≤ D t k) × (sumAlong want c ≤ sumAlong (cost t k) c)
-  unfolding sumAlong
-  along [] p = absurd (none-chain p)
-  along (u ∷ []) p = (omega arith, omega arith)
-  along (u ∷ w ∷ c) (joined h e p) =
-      let r = along (w ∷ c) p in
-      let q = tail-means t good k b u .bounds (w ∷ c) (after e p) in
-      (omega (arith, r .0, r .1, q), omega (arith, r .1))
+    -- and whatever is not on the longest chain asks for 1,000,000 at most
+    window-high : sum (vertices t k) want + len t k ≤ x + 16000000
+    unfolding len edgeIn
+    window-high =
+        let g = good .each k b in
+        let r = longest-reached (vertices t k) (succ t k) (cost t k) (g .v-high) (g .no-cycle) (g .v-low) in
+        let m : ℕ → ℕ = λ u. 1000000 - want u in
+        omega (
+          arith,
+          r .2,
+          along (r .0) (r .1) .0,
+          along-few (vertices t k) (edgeIn t k) 1000000 (cost t k) (g .cost-high) (r .0) (r .1),
+          along-both (vertices t k) (edgeIn t k) 1000000 want m (λ u l. let c = g .cost-high u l in omega arith) (r .0) (r .1),
+          along-most (vertices t k) (edgeIn t k) (rank 16 (edgeIn t k)) (climbs t good k b) m (r .0) (r .1),
+          sum-add (vertices t k) want m (λ u. 1000000) (λ u l. let c = g .cost-high u l in omega arith),
+          sum-const (vertices t k) 1000000 (λ u. 1000000) (λ u l. refl),
+          g .v-high,
+        )
 
-  -- and whatever is not on the longest chain asks for 1,000,000 at most
-  pub own-high : dueFrom t k k + len t k ≤ D t k + 16000000
-  unfolding len edgeIn
+  job-high : (h : ℕ) → sum (vertices t k) (asked t k k h) + len t k ≤ D t k - h * T t k + 16000000
+  unfolding asked
+  job-high h = window-high (D t k - h * T t k)
+
+  -- four jobs at most, whose windows D, D - T, D - 2 · T and D - 3 · T come to five halves of D at most, since T is a quarter of D or more
+  pub own-high : 2 * dueFrom t k k + 8 * len t k ≤ 5 * D t k + 128000000
+  unfolding dueFrom
   own-high =
-      let g = good .each k b in
-      let r = longest-reached (vertices t k) (succ t k) (cost t k) (g .v-high) (g .no-cycle) (g .v-low) in
-      let m : ℕ → ℕ = λ u. 1000000 - want u in
-      omega (
-        arith,
-        own-is,
-        r .2,
-        along (r .0) (r .1) .0,
-        along-few (vertices t k) (edgeIn t k) 1000000 (cost t k) (g .cost-high) (r .0) (r .1),
-        along-both (vertices t k) (edgeIn t k) 1000000 want m (λ u l. let c = g .cost-high u l in omega arith) (r .0) (r .1),
-        along-most (vertices t k) (edgeIn t k) (rank 16 (edgeIn t k)) (climbs t good k b) m (r .0) (r .1),
-        sum-add (vertices t k) want m (λ u. 1000000) (λ u l. let c = g .cost-high u l in omega arith),
-        sum-const (vertices t k) 1000000 (λ u. 1000000) (λ u l. refl),
-        g .v-high,
-      )
+      let p = good .each k b .D-T in
+      let jobs : ℕ → ℕ = λ h. sum (vertices t k) (asked t k k h) in
+      omega (arith, sum-part (roundedUp (D t k) (T t k)) 4 jobs (own-jobs t good k b), four jobs, job-high 0, job-high 1, job-high 2, job-high 3)
 
   -- ---- ALL TOGETHER
   pub sharp-high : sharpDue t k ≤ dueFrom t k k + 15 * (8 * (D t k * (D t k + 1)))

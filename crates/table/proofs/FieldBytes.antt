@@ -115,7 +115,7 @@ period-is d s at t e = go (ticksAt 1 s at) e
   where
     go : (f : Field) → notUnder d at f ≡ Got t → f ≡ Got t
     go (Stop o) e = stop-got o t e
-    go (Got x) e = ap Got (pick-got (leb d x) x (Order at) t e .1)
+    go (Got x) e = ap Got (pick-got (leb d (4 * x)) x (Order at) t e .1)
 
 pub record EdgeIs (v low : ℕ) (s : List ℕ) (at key : ℕ) : Type 0 where
   pub low-is : low ≤ key

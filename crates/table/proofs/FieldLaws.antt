@@ -150,26 +150,26 @@ module _ (d : ℕ) (s : List ℕ) (at : ℕ) (f : Field) (h : f ≡ ticksAt 1 s 
   unfolding periodAt notUnder
   period-stop o e = rw (← h, e)
 
-  pub period-got : (t : ℕ) → f ≡ Got t → d ≤ t → Got t ≡ periodAt d s at
+  pub period-got : (t : ℕ) → f ≡ Got t → d ≤ 4 * t → Got t ≡ periodAt d s at
   unfolding periodAt notUnder
-  period-got t e k = rw (← h, e, le-leb d t k)
+  period-got t e k = rw (← h, e, le-leb d (4 * t) k)
 
-  pub period-under : (t : ℕ) → f ≡ Got t → t < d → Stop (Order at) ≡ periodAt d s at
+  pub period-under : (t : ℕ) → f ≡ Got t → 4 * t < d → Stop (Order at) ≡ periodAt d s at
   unfolding periodAt notUnder
-  period-under t e k = rw (← h, e, lt-leb d t k)
+  period-under t e k = rw (← h, e, lt-leb d (4 * t) k)
 
 pub ruleset period-laws = (period-stop, period-got, period-under)
 
-under-read : (d at t : ℕ) (f : Field) → notUnder d at f ≡ Got t → (f ≡ Got t) × (d ≤ t)
+under-read : (d at t : ℕ) (f : Field) → notUnder d at f ≡ Got t → (f ≡ Got t) × (d ≤ 4 * t)
 unfolding notUnder
 under-read d at t (Stop o) e = let z : _≡_ {A = ℕ} 0 1 = cc in absurd (omega arith)
-under-read d at t (Got x) e = go (leb d x) refl e
+under-read d at t (Got x) e = go (leb d (4 * x)) refl e
   where
-    go : (b : Bool) → leb d x ≡ b → pick b (Got x) (Stop (Order at)) ≡ Got t → (Got x ≡ Got t) × (d ≤ t)
-    go true h e = let q : x ≡ t = cc in let l = leb-true d x h in (e, omega arith)
+    go : (b : Bool) → leb d (4 * x) ≡ b → pick b (Got x) (Stop (Order at)) ≡ Got t → (Got x ≡ Got t) × (d ≤ 4 * t)
+    go true h e = let q : x ≡ t = cc in let l = leb-true d (4 * x) h in (e, omega arith)
     go false h e = let z : _≡_ {A = ℕ} 0 1 = cc in absurd (omega arith)
 
-pub period-read : (d : ℕ) (s : List ℕ) (at : ℕ) (f : Field) (t : ℕ) → f ≡ periodAt d s at → f ≡ Got t → (at + 4 ≤ length s) × (t ≤ 1000000) × (d ≤ t)
+pub period-read : (d : ℕ) (s : List ℕ) (at : ℕ) (f : Field) (t : ℕ) → f ≡ periodAt d s at → f ≡ Got t → (at + 4 ≤ length s) × (t ≤ 1000000) × (d ≤ 4 * t)
 unfolding periodAt
 period-read d s at f t h e =
     let u = under-read d at t (ticksAt 1 s at) (sym h ∙ e) in

@@ -69,14 +69,14 @@ unfolding ticksAt number
 ticks-view lo s at = field-view (Between lo 1000000) 4 s at _ (ranged-view Ticks lo 1000000 at (value4 s at) (bad-by (Ticks at) 3 refl))
 
 abbrev pub Period : ℕ → ℕ → Type 0
-Period d t = (1 ≤ t) × (t ≤ 1000000) × (d ≤ t)
+Period d t = (1 ≤ t) × (t ≤ 1000000) × (d ≤ 4 * t)
 
 pub period-view : (d : ℕ) (s : List ℕ) (at : ℕ) → View (periodAt d s at) (Period d)
 unfolding periodAt notUnder number
 period-view d s at = go (ticksAt 1 s at) (ticks-view 1 s at)
   where
     go : (f : Field) → View f (Between 1 1000000) → View (notUnder d at f) (Period d)
-    go f (value x e b) = rw e (pick-view (Period d) (leb d x) x (Order at) (bad-by (Order at) 4 refl) (λ h. (b .0, b .1, leb-true d x h)))
+    go f (value x e b) = rw e (pick-view (Period d) (leb d (4 * x)) x (Order at) (bad-by (Order at) 4 refl) (λ h. (b .0, b .1, leb-true d (4 * x) h)))
     go f (halt o e h) = rw e (halt o refl h)
 
 -- the edge with a key: ends below v, from differs from to

@@ -77,7 +77,7 @@ module _ (s : List ℕ) where
       also false x l = stopped (Order at) refl (bad-by (Order at) 4 refl) h
 
       go : (f : Field) → Placed (length s) (at + 4) f → Placed (length s) (at + 4) (notUnder d at f)
-      go f (got x e l) = rw e (also (leb d x) x l)
+      go f (got x e l) = rw e (also (leb d (4 * x)) x l)
       go f (stopped o e b p) = rw e (stopped o refl b p)
 
 -- ---- what follows

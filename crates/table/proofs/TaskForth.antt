@@ -112,7 +112,7 @@ module _ (t : Table) (good : GoodTable t) (typed : Typed t) (s : List ℕ) (at i
         read-byte 0 120 s (at + 3) (length (edgeKeys t i)) _ (omega arith) (g .e-high) (at-e t s at i r e),
         read-ticks 1 s (at + 4) (D t i) _ (g .D-low) (g .D-high) (at-D t s at i r e),
         read-ticks 1 s (at + 8) (T t i) _ (g .T-low) (g .T-high) (at-T t s at i r e),
-        le-leb (D t i) (T t i) (g .D-T),
+        le-leb (D t i) (4 * T t i) (g .D-T),
         k,
         q,
         same-succ t i (g .v-high) (record { many = typed .rows i (omega arith); small = typed .small i }) (g .ends),

@@ -79,7 +79,7 @@ pub(crate) fn ticks_at(bytes: &[u8], at: usize, lo: u32) -> Field
     Field::Got(x)
 }
 
-// T, not under the deadline d.
+// T, four times which is not under the deadline d. T is in its own range by then, so four times T does not wrap.
 pub(crate) fn period_at(bytes: &[u8], at: usize, d: u32) -> Field
     requires { ⌜ at ≤ length (now bytes) ⌝ }
     ensures { λ r. ⌜ r ≡ periodAt d (now (bytes .entry)) at ⌝ }
@@ -87,7 +87,7 @@ pub(crate) fn period_at(bytes: &[u8], at: usize, d: u32) -> Field
     match ticks_at(bytes, at, 1) {
         Field::Stop(o) => Field::Stop(o),
         Field::Got(t) => {
-            if t < d {
+            if 4 * t < d {
                 return Field::Stop(Outcome::Order(at));
             }
             Field::Got(t)

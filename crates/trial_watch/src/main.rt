@@ -44,7 +44,7 @@ fn with_line(sum: u64, line: Line) -> u64
     requires { ⌜ sum < 4294967296 ⌝ }
     ensures { λ r. ⌜ r < 4294967296 ⌝ }
 {
-    let n = smaller(line.len, 640);
+    let n = smaller(line.len, 2048);
     let words = line.bytes;
     let mut s = sum;
     let mut k: usize = 0;

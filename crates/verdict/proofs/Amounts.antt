@@ -1,11 +1,11 @@
 -- vol, len and due of a good table: their ranges, and vol ≥ len, due ≥ vol. All are far below 2 ^ 63, so no sum of them wraps.
-use mathlib.Core.Path.{_≡_, refl, ap, _∙_}
+use mathlib.Core.Path.{_≡_, refl, ap}
 use mathlib.Core.Bool.{Bool, true, false}
 use mathlib.Core.List.{List, [], _∷_}
 use Prim.Native.Nat.{ℕ, zero, suc, _+_, _*_, _-_, _/_, _≤_, _<_}
 use native.Mathlib.Omega.{arith}
-use native.Mathlib.Nat.{mul-suc, mul-le-mul, mul-le-mul-left, mul-le-mul-right, div-eq-of-lt, div-le-of-le-mul, div-eq-of-lt-le}
-use native.Mathlib.Decide.{ℕ-discrete}
+use native.Mathlib.Nat.{mul-comm, mul-suc, mul-le-mul, mul-le-mul-left, mul-le-mul-right, div-eq-of-lt, div-le-of-le-mul, le-div-iff-mul-le}
+use native.Mathlib.Decide.{ℕ-discrete, decLe}
 use lib.Dec.{leb}
 use borrow.Author.Tests.{le-leb, leb-true}
 use Rattle.graph.specs.Words.{pick, sum}
@@ -54,9 +54,19 @@ unfolding roundedUp
 up-most zero y h = let z : (0 + (y - 1)) / y ≡ 0 = div-eq-of-lt (omega arith) in omega arith
 up-most (suc x) y h = div-le-of-le-mul y (omega (arith, mul-suc y x, mul-le-mul-right {m = 1} {n = y} x h))
 
-pub up-one : (x y : ℕ) → 1 ≤ x → x ≤ y → roundedUp x y ≡ 1
+pub up-least : (x y : ℕ) → 1 ≤ x → 1 ≤ y → 1 ≤ roundedUp x y
 unfolding roundedUp
-up-one x y h k = div-eq-of-lt-le y (omega arith) (omega arith)
+up-least x y h one = le-div-iff-mul-le {k = y} {x = 1} {y = x + (y - 1)} (omega arith) .1 (omega arith)
+
+-- up to n times y it is n at most
+pub up-within : (x y n : ℕ) → 1 ≤ y → x ≤ n * y → roundedUp x y ≤ n
+unfolding roundedUp
+up-within x y n one h = elim (decLe ((x + (y - 1)) / y) n) [
+  | yes l ↦ l
+  | no l ↦
+      let q = le-div-iff-mul-le {k = y} {x = suc n} {y = x + (y - 1)} (omega arith) .0 (omega arith) in
+      absurd (omega (arith, q, mul-comm (suc n) y, mul-suc y n, mul-comm y n))
+]
 
 -- ---- a chain passes no vertex twice, so its sum is within the whole sum
 module _ (v : ℕ) (E : ℕ → ℕ → Bool) (rise : ℕ → ℕ) (up : (u w : ℕ) → u < v → w < v → E u w ≡ true → rise u < rise w) (f : ℕ → ℕ) where
@@ -126,32 +136,37 @@ module _ (t : Table) (good : GoodTable t) where
       let r = longest-reached (vertices t k) (succ t k) (cost t k) (good .each k b .v-high) (good .each k b .no-cycle) (good .each k b .v-low) in
       omega (arith, r .2, along-most (vertices t k) (edgeIn t k) (rank 16 (edgeIn t k)) (climbs k b) (cost t k) (r .0) (r .1))
 
-  -- vol ≤ due ≤ vol + 15 · D · 16,000,000: of its own jobs one is due, of another task's at most one each tick
-  own-due : (k : ℕ) → k < t .n → roundedUp (D t k) (T t k) * vol t k ≡ vol t k
-  own-due k b =
-      let e = up-one (D t k) (T t k) (good .each k b .D-low) (good .each k b .D-T) in
-      ap (λ (x : ℕ). x * vol t k) e ∙ omega arith
+  -- vol ≤ due ≤ 4 · vol + 15 · D · 16,000,000: of its own jobs one to four are due, since D is at most four times T, of another task's at most
+  -- one each tick
+  pub own-jobs : (k : ℕ) → k < t .n → roundedUp (D t k) (T t k) ≤ 4
+  own-jobs k b = up-within (D t k) (T t k) 4 (good .each k b .T-low) (good .each k b .D-T)
+
+  own-least : (k : ℕ) → k < t .n → 1 * vol t k ≤ roundedUp (D t k) (T t k) * vol t k
+  own-least k b = mul-le-mul-right (vol t k) (up-least (D t k) (T t k) (good .each k b .D-low) (good .each k b .T-low))
+
+  own-most : (k : ℕ) → k < t .n → roundedUp (D t k) (T t k) * vol t k ≤ 4 * vol t k
+  own-most k b = mul-le-mul-right (vol t k) (own-jobs k b)
 
   pub vol-due : (k : ℕ) → k < t .n → vol t k ≤ due t k
   unfolding due
-  vol-due k b = omega (arith, own-due k b, sum-at (t .n) (λ i. roundedUp (D t k) (T t i) * vol t i) k b)
+  vol-due k b = omega (arith, own-least k b, sum-at (t .n) (λ i. roundedUp (D t k) (T t i) * vol t i) k b)
 
   -- one task's part of what is due, and the parts of the first tasks
   pub task-due : (k i : ℕ) → i < t .n → roundedUp (D t k) (T t i) * vol t i ≤ D t k * 16000000
   task-due k i l = mul-le-mul (up-most (D t k) (T t i) (good .each i l .T-low)) (vol-high i l)
 
-  pub due-high : (k : ℕ) → k < t .n → due t k ≤ vol t k + 15 * (D t k * 16000000)
+  pub due-high : (k : ℕ) → k < t .n → due t k ≤ 4 * vol t k + 15 * (D t k * 16000000)
   unfolding due
   due-high k b = go (t .n) refl b
     where
-      go : (n : ℕ) → t .n ≡ n → k < n → sum n (λ i. roundedUp (D t k) (T t i) * vol t i) ≤ vol t k + 15 * (D t k * 16000000)
+      go : (n : ℕ) → t .n ≡ n → k < n → sum n (λ i. roundedUp (D t k) (T t i) * vol t i) ≤ 4 * vol t k + 15 * (D t k * 16000000)
       go zero e l = absurd (omega arith)
       go (suc n) e l =
           let h = good .n-high in
           let z : n ≤ 15 = omega arith in
           omega (
             arith,
-            sum-but-one n (vol t k) (D t k * 16000000) k _ l (omega (arith, own-due k b)) (λ i q. task-due k i (omega arith)),
+            sum-but-one n (4 * vol t k) (D t k * 16000000) k _ l (own-most k b) (λ i q. task-due k i (omega arith)),
             mul-le-mul-left (D t k * 16000000) z,
           )
 
@@ -163,12 +178,12 @@ module _ (t : Table) (good : GoodTable t) where
   chain-high k b = let h = good .m-high in mul-le-mul {n₂ = 7} {m₂ = 16000000} (omega arith) (omega (arith, len-vol k b, vol-high k b))
 
   -- together, as code needs them
-  pub due-bound : (k : ℕ) → k < t .n → due t k ≤ 240000016000000
+  pub due-bound : (k : ℕ) → k < t .n → due t k ≤ 240000064000000
   due-bound k b = omega (arith, due-high k b, vol-high k b, good .each k b .D-high)
 
-  pub due-part : (k j : ℕ) → k < t .n → j ≤ t .n → sum j (λ i. roundedUp (D t k) (T t i) * vol t i) ≤ 240000016000000
+  pub due-part : (k j : ℕ) → k < t .n → j ≤ t .n → sum j (λ i. roundedUp (D t k) (T t i) * vol t i) ≤ 240000064000000
   unfolding due
   due-part k j b l = omega (arith, sum-part j (t .n) (λ i. roundedUp (D t k) (T t i) * vol t i) l, due-bound k b)
 
-  pub spent-bound : (k : ℕ) → k < t .n → (t .m - 1) * len t k + due t k ≤ 240000128000000
+  pub spent-bound : (k : ℕ) → k < t .n → (t .m - 1) * len t k + due t k ≤ 240000176000000
   spent-bound k b = omega (arith, due-bound k b, chain-high k b)

@@ -139,7 +139,7 @@ module _ (t : Table) (good : GoodTable t) (k : ℕ) (b : k < t .n) where
 
   -- what `margin_of` requires, and what it then gives
   module _ (x y : ℕ) (l : x ≡ len t k) (d : y ≡ due t k) where
-    pub margin-ready : (1 ≤ t .m) × (t .m ≤ 8) × (D t k ≤ 1000000) × (x ≤ 16000000) × (y ≤ 240000016000000)
+    pub margin-ready : (1 ≤ t .m) × (t .m ≤ 8) × (D t k ≤ 1000000) × (x ≤ 16000000) × (y ≤ 240000064000000)
     margin-ready = (
       good .m-low,
       good .m-high,
@@ -181,13 +181,13 @@ quotient-fits x y h = record { fits = omega (arith, div-le-self x y) }
 pub product-small : (a b : ℕ) → a ≤ 8 → b ≤ 16000000 → a * b < 2 ^ 62
 product-small a b h k = omega (arith, mul-le-mul {n₂ = 8} {m₂ = 16000000} h k)
 
-pub spent-small : (a b c : ℕ) → a ≤ 8 → b ≤ 16000000 → c ≤ 240000016000000 → a * b + c < 2 ^ 62
+pub spent-small : (a b c : ℕ) → a ≤ 8 → b ≤ 16000000 → c ≤ 240000064000000 → a * b + c < 2 ^ 62
 spent-small a b c h k l = omega (arith, mul-le-mul {n₂ = 8} {m₂ = 16000000} h k)
 
 pub product-fits : (a b : ℕ) → a ≤ 8 → b ≤ 16000000 → Fits w64 (a * b)
 product-fits a b h k = record { fits = omega (arith, product-small a b h k) }
 
-pub spent-fits : (a b c : ℕ) → a ≤ 8 → b ≤ 16000000 → c ≤ 240000016000000 → Fits w64 (a * b + c)
+pub spent-fits : (a b c : ℕ) → a ≤ 8 → b ≤ 16000000 → c ≤ 240000064000000 → Fits w64 (a * b + c)
 spent-fits a b c h k l = record { fits = omega (arith, spent-small a b c h k l) }
 
 -- (m minus 1) times what is at most 2 ^ 53, and as much again

@@ -1,5 +1,5 @@
--- "The margin is a signed number, from minus 240,000,120,000,000 up to at most 8,000,000": proved for every good table, so for
--- every file that is read. Where a margin is not negative, len is within D.
+-- M-109: "The margin's low end is now minus 240,000,168,000,000"; document 01: "up to at most 8,000,000". Proved for every good table, so
+-- for every file that is read. Where a margin is not negative, len is within D.
 use mathlib.Core.Path.{_≡_, refl, sym, ap, _∙_}
 use mathlib.Core.Bool.{Bool, true, false, cond}
 use mathlib.Core.List.{List}
@@ -70,7 +70,7 @@ module _ (t : Table) (good : GoodTable t) (k : ℕ) (b : k < t .n) where
       let e : D t k + f ≡ 16000000 = omega arith in
       omega (arith, sym (ap (λ (x : ℕ). t .m * x) e) ∙ mul-add (t .m) (D t k) f, mul-le-mul-right f (good .m-high))
 
-  pub spent-most : (t .m - 1) * len t k + due t k ≤ t .m * D t k + 240000120000000
+  pub spent-most : (t .m - 1) * len t k + due t k ≤ t .m * D t k + 240000168000000
   spent-most =
       let l : len t k ≤ 16000000 = omega (arith, len-vol t good k b, vol-high t good k b) in
       let m = good .m-low in
@@ -106,7 +106,7 @@ module _ (t : Table) (good : GoodTable t) (k : ℕ) (b : k < t .n) where
 
 -- ---- THE MARGIN'S RANGE, both ends
 unfoldable pub lowEnd : ℤ
-lowEnd = negℤ (pos 240000120000000)
+lowEnd = negℤ (pos 240000168000000)
 
 unfoldable pub highEnd : ℤ
 highEnd = pos 8000000
@@ -118,7 +118,7 @@ pub record InRange (z : ℤ) : Type 0 where
 pub margin-range : (t : Table) → GoodTable t → (k : ℕ) → k < t .n → InRange (margin t k)
 unfolding margin lowEnd highEnd
 margin-range t good k b = record {
-  low = minus-low (t .m * D t k) ((t .m - 1) * len t k + due t k) 240000119999999 (omega (arith, spent-most t good k b));
+  low = minus-low (t .m * D t k) ((t .m - 1) * len t k + due t k) 240000167999999 (omega (arith, spent-most t good k b));
   high = minus-high (t .m * D t k) ((t .m - 1) * len t k + due t k) 8000000 (spent-least t good k b);
 }
 

@@ -39,7 +39,7 @@ fn fill(buf: &mut [u8], n: usize) -> usize {
 
 // Writes a line.
 fn print(line: Line) -> bool {
-    let n = smaller(line.len, 640);
+    let n = smaller(line.len, 2048);
     let words = line.bytes;
     io::write_all(STDOUT_FILENO, &words[..n])
 }

@@ -1,9 +1,11 @@
-//! A set of 64-bit keys in the order found, cheap to empty.
+//! A set of keys in the order found, cheap to empty.
+
+use super::Key;
 
 /// Keys stand in `keys` in the order found; `slots` holds their indices plus
 /// one, by hash, together with the round in which they were put in.
 pub struct KeySet {
-    keys: Vec<u64>,
+    keys: Vec<Key>,
     slots: Vec<(u32, u32)>,
     round: u32,
 }
@@ -36,12 +38,12 @@ impl KeySet {
         self.keys.is_empty()
     }
 
-    pub fn key(&self, at: usize) -> u64 {
+    pub fn key(&self, at: usize) -> Key {
         self.keys[at]
     }
 
     /// Puts a key in; whether it is new.
-    pub fn insert(&mut self, key: u64) -> bool {
+    pub fn insert(&mut self, key: Key) -> bool {
         if 2 * self.keys.len() >= self.slots.len() {
             self.grow();
         }
@@ -56,9 +58,10 @@ impl KeySet {
     }
 
     /// The slot of this key, or the empty one where it belongs.
-    fn find(&self, key: u64) -> usize {
+    fn find(&self, key: Key) -> usize {
         let mask = self.slots.len() - 1;
-        let mut slot = (key.wrapping_mul(0x9E37_79B9_7F4A_7C15) >> 32) as usize & mask;
+        let both = (key as u64) ^ ((key >> 64) as u64).rotate_left(29);
+        let mut slot = (both.wrapping_mul(0x9E37_79B9_7F4A_7C15) >> 32) as usize & mask;
         loop {
             let (index, round) = self.slots[slot];
             let empty = round != self.round || index == 0;

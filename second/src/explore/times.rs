@@ -2,7 +2,7 @@
 //! draws one. The scheduler's choice is never told it: it sees only what has
 //! ended.
 
-use crate::machine::{summed, State, Vertex};
+use crate::machine::{job_at, rest_at, summed, State, Vertex};
 use crate::table::*;
 
 /// What the vertices of a job may take; 0 in any case where the cost is 0.
@@ -36,13 +36,15 @@ pub fn each_draw(
     if times == Times::Stated {
         return each(released);
     }
-    let most: Vec<_> = draws(table, releases, times).collect();
+    let most: Vec<_> = draws(table, released, releases, times)
+        .map(|(vertex, most)| (rest_at(vertex), most))
+        .collect();
     for (at, most) in &most {
         released.remaining[*at] = *most;
     }
     loop {
-        for i in 0..usize::from(table.n) {
-            released.work[i] = summed(sixteen(&released.remaining, i));
+        for (task, age) in new_jobs(table, released, releases) {
+            released.work[job_at(task, age)] = summed(released.rest(task, age));
         }
         if !each(released) {
             return false;
@@ -53,13 +55,32 @@ pub fn each_draw(
     }
 }
 
-/// The places of the vertices of these tasks that have a choice of times, each
-/// with the most that it may take.
-fn draws(table: &Table, releases: u16, times: Times) -> impl Iterator<Item = (usize, u32)> + '_ {
-    let named = move |at: &usize| releases >> (at / ENTRIES) & 1 == 1;
-    let most = move |at: usize| (at, times.most(table.costs[at]));
-    let all = (0..ROW).filter(named).map(most);
-    all.filter(|(_, most)| *most > 1)
+/// Task and age place of each job that was released in this tick: it has all of
+/// D left.
+pub fn new_jobs(table: &Table, released: &State, releases: u16) -> Vec<(usize, usize)> {
+    let named = (0..ENTRIES).filter(|i| releases >> i & 1 == 1);
+    let age = |i: usize| {
+        let deadline = released.clock.wrapping_add(table.tasks[i].deadline);
+        let mut jobs = released.tasks[i].jobs();
+        jobs.find(|job| job.1 == deadline).map(|job| (i, job.0))
+    };
+    named.filter_map(age).collect()
+}
+
+/// The vertices released that have a choice of times, each with the most that
+/// it may take.
+fn draws(
+    table: &Table,
+    released: &State,
+    releases: u16,
+    times: Times,
+) -> impl Iterator<Item = (Vertex, u32)> {
+    let mut all = Vec::new();
+    for (i, age) in new_jobs(table, released, releases) {
+        let costs = table.costs_of(i).iter().enumerate();
+        all.extend(costs.map(|(h, cost)| ((i as u8, age as u8, h as u8), times.most(*cost))));
+    }
+    all.into_iter().filter(|(_, most)| *most > 1)
 }
 
 /// One tick less for the first vertex that has one to spare; those before it
@@ -78,9 +99,10 @@ fn next_draw(drawn: &mut State, most: &[(usize, u32)]) -> bool {
 /// The vertices released that take another time than their cost, and what they
 /// take.
 pub fn off_cost(table: &Table, drawn: &State, releases: u16) -> Vec<(Vertex, u32)> {
-    let all = draws(table, releases, Times::Late);
-    let off = all.filter(|(at, _)| drawn.remaining[*at] != table.costs[*at]);
-    let vertex = |at: usize| ((at / ENTRIES) as u8, (at % ENTRIES) as u8);
-    off.map(|(at, _)| (vertex(at), drawn.remaining[at]))
+    let all = draws(table, drawn, releases, Times::Late);
+    let taken = all.map(|(vertex, _)| (vertex, drawn.remaining[rest_at(vertex)]));
+    let cost = |(i, _, h): Vertex| table.costs[ENTRIES * usize::from(i) + usize::from(h)];
+    taken
+        .filter(|(vertex, rest)| *rest != cost(*vertex))
         .collect()
 }

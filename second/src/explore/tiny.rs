@@ -5,17 +5,45 @@ use crate::table::*;
 
 /// A task by itself: entry and costs.
 type Lone = (Task, [u32; ENTRIES]);
+/// D, T and the largest cost.
+type Frame = (u32, u32, u32);
 
 /// Calls `each` with all tables with up to 3 processors and numbers up to
-/// `most`, costs of 0 among them: one task of up to 3 vertices, or two of up to 2 each, until `each`
-/// says false. Gives whether it went through to the end.
-pub fn small_tables(most: u32, mut each: impl FnMut(&Table) -> bool) -> bool {
-    let one = lone_tasks(3, most);
-    let two = lone_tasks(2, most);
-    (1..=3).all(|m| {
+/// `most`, costs of 0 and a D up to four times T among them: one task of up to 3
+/// vertices, or two of up to 2 each, until `each` says false. Gives whether it
+/// went through to the end.
+pub fn small_tables(most: u32, each: impl FnMut(&Table) -> bool) -> bool {
+    let frames = (1..=most).flat_map(|period| {
+        let deadlines = 1..=most.min(most_deadline(period));
+        deadlines.map(move |deadline| (deadline, period, most))
+    });
+    let frames: Vec<Frame> = frames.collect();
+    all_tables(3, &lone_tasks(3, &frames), &lone_tasks(2, &frames), each)
+}
+
+/// The same with up to 8 processors, T up to `most`, D up to four times T and
+/// costs up to D: one task of up to 2 vertices, or two of one vertex each.
+pub fn long_tables(most: u32, each: impl FnMut(&Table) -> bool) -> bool {
+    let frames = (1..=most).flat_map(|period| {
+        let deadlines = 1..=most_deadline(period);
+        deadlines.map(move |deadline| (deadline, period, deadline))
+    });
+    let frames: Vec<Frame> = frames.collect();
+    all_tables(8, &lone_tasks(2, &frames), &lone_tasks(1, &frames), each)
+}
+
+/// All tables of up to so many processors with one of these tasks, or with two
+/// of those: each two in one order, for an exploration takes ties in every way.
+fn all_tables(
+    processors: u8,
+    one: &[Lone],
+    two: &[Lone],
+    mut each: impl FnMut(&Table) -> bool,
+) -> bool {
+    (1..=processors).all(|m| {
         one.iter().all(|task| each(&build(m, &[task])))
-            && two.iter().all(|first| {
-                let mut seconds = two.iter();
+            && two.iter().enumerate().all(|(at, first)| {
+                let mut seconds = two[at..].iter();
                 seconds.all(|second| each(&build(m, &[first, second])))
             })
     })
@@ -34,24 +62,19 @@ fn build(m: u8, tasks: &[&Lone]) -> Table {
     table
 }
 
-/// Every task of up to `vertices` vertices with numbers up to `most`.
-fn lone_tasks(vertices: usize, most: u32) -> Vec<Lone> {
+/// Every task of up to `vertices` vertices in one of these frames.
+fn lone_tasks(vertices: usize, frames: &[Frame]) -> Vec<Lone> {
     let mut tasks = Vec::new();
     for v in 1..=vertices {
         for succ in graphs(v) {
-            for costs in costs(v, most) {
-                for period in 1..=most {
-                    tasks.extend((1..=period).map(|deadline| {
-                        let v = v as u8;
-                        let task = Task {
-                            v,
-                            deadline,
-                            period,
-                            succ,
-                        };
-                        (task, costs)
-                    }));
-                }
+            for (deadline, period, most) in frames.iter().copied() {
+                let task = Task {
+                    v: v as u8,
+                    deadline,
+                    period,
+                    succ,
+                };
+                tasks.extend(costs(v, most).into_iter().map(|costs| (task, costs)));
             }
         }
     }

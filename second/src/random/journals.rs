@@ -1,7 +1,7 @@
 //! Random journals: legal runs with ties broken at random, and damage to them.
 
 use super::{releases, Random};
-use crate::judge::{put_row, ROW_HEAD};
+use crate::judge::{put_row, ROW_HEAD, ROW_VERTEX};
 use crate::machine::*;
 use crate::table::*;
 
@@ -54,7 +54,7 @@ pub fn busy_rows(r: &mut Random, table: &Table, rows: usize) -> Vec<Vec<u8>> {
     let mut state = State::zeros(0, Phase::Running);
     let mut out = Vec::new();
     while out.len() < rows && state.phase == Phase::Running {
-        let ready = (0..usize::from(table.n)).filter(|i| state.tasks[*i].wait() == 0);
+        let ready = (0..usize::from(table.n)).filter(|i| state.tasks[*i].wait == 0);
         let set = ready.fold(0, |set, i| set | 1 << i);
         let before = release(table, &state, set);
         let chosen = choice(r, table, &before, true);
@@ -90,46 +90,51 @@ fn damage_row(r: &mut Random, table: &Table, row: &mut Vec<u8>) {
         row.push(r.byte());
         return;
     }
-    let count = (row.len() - ROW_HEAD) / 2;
-    let pair = |k: usize| ROW_HEAD + 2 * k;
-    let task = r.below_either(usize::from(table.n), ENTRIES + 1) as u8;
-    let vertex = r.below_either(6, ENTRIES + 1) as u8;
+    let mut listed: Vec<[u8; ROW_VERTEX]> = row[ROW_HEAD..]
+        .chunks_exact(ROW_VERTEX)
+        .map(|bytes| [bytes[0], bytes[1], bytes[2]])
+        .collect();
     match r.below(10) {
         0 => row[r.below(2)] ^= 1 << r.below(8),
         1 => row[2 + r.below(2)] ^= 1 << r.below(8),
         2 => row[4] = r.below_either(10, 256) as u8,
-        3 if count > 0 => {
-            let k = pair(r.below(count));
-            row.drain(k..k + 2).for_each(drop);
-            row[4] = row[4].wrapping_sub(1);
-        }
-        4 if count > 0 => {
-            let k = pair(r.below(count));
-            let again = [row[k], row[k + 1]];
-            row.splice(k..k, again).for_each(drop);
-            row[4] = row[4].wrapping_add(1);
-        }
-        5 | 6 => {
-            let mut pairs: Vec<[u8; 2]> = (0..count)
-                .map(|k| [row[pair(k)], row[pair(k) + 1]])
-                .collect();
-            if count > 0 && r.coin() {
-                pairs.remove(r.below(count));
-            }
-            pairs.push([task, vertex]);
-            pairs.sort_unstable();
+        3 => row.truncate(r.below(row.len())),
+        _ => {
+            damage_list(r, table, &mut listed);
             row.truncate(ROW_HEAD);
-            row[4] = pairs.len() as u8;
-            row.extend(pairs.concat());
+            row[4] = listed.len() as u8;
+            row.extend(listed.concat());
         }
-        7 if count > 0 => row[pair(r.below(count)) + 1] = vertex,
-        8 if count > 0 => row[pair(r.below(count))] = task,
-        9 if count > 1 => {
-            let (a, b) = (pair(r.below(count)), pair(r.below(count)));
-            row.swap(a, b);
-            row.swap(a + 1, b + 1);
+    }
+}
+
+/// One vertex less, one twice, one more or another one, in order; one with
+/// another task, age place or vertex, or two exchanged, where they stand.
+fn damage_list(r: &mut Random, table: &Table, listed: &mut Vec<[u8; ROW_VERTEX]>) {
+    let other = [
+        r.below_either(usize::from(table.n), ENTRIES + 1) as u8,
+        r.below_either(2, AGES + 1) as u8,
+        r.below_either(6, ENTRIES + 1) as u8,
+    ];
+    let count = listed.len();
+    match r.below(6) {
+        0 if count > 0 => drop(listed.remove(r.below(count))),
+        1 if count > 0 => {
+            let at = r.below(count);
+            listed.insert(at, listed[at]);
         }
-        _ => row.truncate(r.below(row.len())),
+        2 if count > 0 => {
+            let part = r.below(ROW_VERTEX);
+            listed[r.below(count)][part] = other[part];
+        }
+        3 if count > 1 => listed.swap(r.below(count), r.below(count)),
+        _ => {
+            if count > 0 && r.coin() {
+                listed.remove(r.below(count));
+            }
+            listed.push(other);
+            listed.sort_unstable();
+        }
     }
 }
 
@@ -151,15 +156,19 @@ pub fn journal(r: &mut Random, table: &Table, rows: usize) -> Vec<u8> {
 }
 
 /// A table whose runs are short enough to end, miss and tie: small costs and
-/// deadlines, often equal.
+/// deadlines, often equal; at times one whose jobs outlive the period.
 pub fn busy_table(r: &mut Random) -> Table {
+    if r.one_in(4) {
+        return super::long_table(r);
+    }
     let n = r.below_either(4, ENTRIES) + 1;
     let mut table = super::table_sized(r, n, 6);
     let most = r.pick(&[2, 3, 6, 12]);
     for i in 0..n {
         let deadline = r.range(1, 4 * most);
+        let short = r.range(least_period(deadline), deadline);
         table.tasks[i].deadline = deadline;
-        table.tasks[i].period = deadline + r.pick(&[0, 0, 1, most]);
+        table.tasks[i].period = r.pick(&[short, short, deadline, deadline + 1, deadline + most]);
         super::costs(r, &mut table, i, |r| r.range(1, most));
     }
     table
@@ -170,7 +179,7 @@ pub fn busy_table(r: &mut Random) -> Table {
 pub fn judge_input(r: &mut Random, rows: usize) -> Vec<u8> {
     let mut table = busy_table(r);
     // Mostly one whose runs do not miss.
-    while !r.one_in(8) && crate::verdict::judge(&table).number != 0 {
+    while !r.one_in(8) && crate::sharp::judge_sharp(&table).number != 0 {
         table = busy_table(r);
     }
     let most = r.below(rows + 1);
@@ -212,9 +221,9 @@ fn missing_late(r: &mut Random, table: &Table, rows: usize) -> Option<Vec<u8>> {
     let mut state = State::zeros(0, Phase::Running);
     let mut out = Vec::new();
     for row in 0..rows + 100 {
-        let ready = (0..usize::from(table.n)).filter(|i| state.tasks[*i].wait() == 0);
+        let ready = (0..usize::from(table.n)).filter(|i| state.tasks[*i].wait == 0);
         let ready: Vec<usize> = ready.collect();
-        let idle = (state.tasks.iter()).all(|task| matches!(task, Job::Idle { .. }));
+        let idle = state.tasks.iter().all(TaskState::is_idle);
         let set = match row < rows {
             true if idle && !ready.is_empty() => 1 << r.pick(&ready),
             true => 0,

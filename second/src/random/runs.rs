@@ -16,7 +16,7 @@ fn clock(r: &mut Random) -> u32 {
 
 /// A table that runs well or ill in few ticks, or any other.
 fn any_table(r: &mut Random) -> Table {
-    match r.below(6) {
+    match r.below(8) {
         0 | 1 => tiny_table(r, true),
         2 => tiny_table(r, false),
         3 => {
@@ -25,6 +25,7 @@ fn any_table(r: &mut Random) -> Table {
             near_edge(r, n, most, scale)
         }
         4 => table_sized(r, 16, 3),
+        5 | 6 => long_table(r),
         _ => table(r),
     }
 }
@@ -45,7 +46,7 @@ pub fn run(r: &mut Random, most: usize) -> Run {
     for _ in 0..r.below(most + 1) {
         let mut set = 0;
         for i in 0..usize::from(table.n) {
-            let may = state.tasks[i].wait() == 0;
+            let may = state.tasks[i].wait == 0;
             if may && r.one_in(eager) || wrong > 0 && r.one_in(wrong * 2) {
                 set |= 1 << i;
             }

@@ -26,7 +26,9 @@ pub fn shorten(r: &mut Random, table: &mut Table) {
         let len = figures(table, k).len as u32;
         let under = r.range(0, 3);
         let task = &mut table.tasks[k];
-        task.deadline = len.saturating_sub(under).clamp(1, task.period);
+        task.deadline = len
+            .saturating_sub(under)
+            .clamp(1, most_deadline(task.period));
     }
 }
 
@@ -49,7 +51,8 @@ pub fn short_beside_long(r: &mut Random, scale: u32) -> Table {
     put_fork(&mut table, 1, steps, ends);
     for (task, ticks) in table.tasks.iter_mut().zip([short, long]) {
         task.deadline = ticks;
-        task.period = r.range(ticks, (ticks + ticks / 4).min(MOST_TICKS));
+        let least = if r.coin() { ticks } else { least_period(ticks) };
+        task.period = r.range(least, (ticks + ticks / 4).min(MOST_TICKS));
     }
     if r.coin() {
         grow_steps(&mut table, steps, MOST_TICKS, is_sharp);

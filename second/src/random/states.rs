@@ -1,12 +1,13 @@
 //! Random states: reached by runs, and damaged ones.
 
 use super::Random;
+use crate::explore::most_live;
 use crate::machine::*;
 use crate::table::*;
 
 /// A release set among the tasks whose wait is 0, often all or none.
 pub fn releases(r: &mut Random, table: &Table, state: &State) -> u16 {
-    let ready = (0..usize::from(table.n)).filter(|i| state.tasks[*i].wait() == 0);
+    let ready = (0..usize::from(table.n)).filter(|i| state.tasks[*i].wait == 0);
     let ready = ready.fold(0u16, |set, i| set | 1 << i);
     match r.below(4) {
         0 => ready,
@@ -40,79 +41,134 @@ pub fn fitting(r: &mut Random, table: &Table) -> State {
         return state;
     }
     for i in 0..usize::from(table.n) {
-        let task = &table.tasks[i];
         let nothing = table.costs_of(i).iter().all(|cost| *cost == 0);
-        if task.deadline < 2 || nothing || r.one_in(3) {
-            let wait = r.range(0, task.period - 1);
-            state.tasks[i] = Job::Idle { wait };
-            continue;
-        }
-        let left = r.range(1, task.deadline - 1);
-        state.tasks[i] = Job::Live {
-            deadline: state.clock.wrapping_add(left),
-            wait: task.period - task.deadline + left,
+        let most = if nothing {
+            0
+        } else {
+            most_live(&table.tasks[i])
         };
-        fill(r, table, i, &mut state);
-        state.work[i] = summed(sixteen(&state.remaining, i));
+        put_jobs(r, table, i, most, &mut state);
     }
     state
 }
 
+/// Up to so many live jobs of a task, each at least T after the one before, and
+/// a wait that goes with them.
+fn put_jobs(r: &mut Random, table: &Table, i: usize, most: usize, state: &mut State) {
+    let task = &table.tasks[i];
+    let count = if r.one_in(3) { 0 } else { r.below(most + 1) };
+    let mut left = 1;
+    for age in 0..count {
+        let later = (count - 1 - age) as u32 * task.period;
+        let last = task.deadline - 1 - later;
+        left = if r.one_in(3) {
+            left
+        } else {
+            r.range(left, last)
+        };
+        let rest = some_work(r, table, i);
+        state.put_job(i, age, state.clock.wrapping_add(left), &rest);
+        left += task.period;
+    }
+    // By now this is T more than the newest has left.
+    let least = if count > 0 {
+        left.saturating_sub(task.deadline)
+    } else {
+        0
+    };
+    let any = r.range(least, task.period - 1);
+    state.tasks[i].wait = if r.coin() { least } else { any };
+}
+
 /// Work done on a job in any order that the edges allow, not all of it.
-fn fill(r: &mut Random, table: &Table, i: usize, state: &mut State) {
-    let row = ENTRIES * i..ENTRIES * (i + 1);
-    state.remaining[row.clone()].copy_from_slice(&table.costs[row]);
+fn some_work(r: &mut Random, table: &Table, i: usize) -> [u32; ENTRIES] {
+    let mut rest = *table.costs_of(i);
     let v = usize::from(table.tasks[i].v);
     for _ in 0..r.below(3 * v) {
         let h = r.below(v);
-        let rest = sixteen(&state.remaining, i);
-        let free = held_back(&table.tasks[i], rest) >> h & 1 == 0;
+        let free = held_back(&table.tasks[i], &rest) >> h & 1 == 0;
         let others = (0..v).any(|p| p != h && rest[p] > 0);
-        let was = rest[h];
-        if free && was > 0 {
+        if free && rest[h] > 0 {
             let low = u32::from(!others);
-            let any = r.range(low, was);
-            state.remaining[ENTRIES * i + h] = r.pick(&[low, any]);
+            let any = r.range(low, rest[h]);
+            rest[h] = r.pick(&[low, any]);
         }
     }
+    rest
 }
 
-/// A state with `changes` fields set to any number; at times with every job's
-/// work made the sum of its remainings again.
+/// A state with `changes` fields set to any number, or with a task's jobs in
+/// other places; at times with every job's work made the sum of its remainings
+/// again.
 pub fn damaged_state(r: &mut Random, base: &State, changes: usize) -> State {
     let mut state = *base;
     for _ in 0..changes {
         let i = r.below_either(3, ENTRIES);
-        let h = r.below_either(3, ENTRIES);
-        let at = ENTRIES * i + h;
-        let (deadline, wait) = match state.tasks[i] {
-            Job::Idle { wait } => (state.clock, wait),
-            Job::Live { deadline, wait } => (deadline, wait),
-        };
-        let near = r.range(0, 2).wrapping_sub(1);
-        match r.below(12) {
-            0 => state.clock = state.clock.wrapping_add(near),
-            1 => state.phase = Phase::Stopped(r.number() as u8),
-            2 => state.phase = Phase::Running,
-            3 => state.tasks[i] = Job::Idle { wait },
-            4 => state.tasks[i] = Job::Idle { wait: r.number() },
-            5 => state.tasks[i] = Job::Live { deadline, wait },
-            6 => {
-                let deadline = deadline.wrapping_add(near);
-                state.tasks[i] = Job::Live { deadline, wait };
-            }
-            7 => {
-                let wait = wait.wrapping_add(near);
-                state.tasks[i] = Job::Live { deadline, wait };
-            }
-            8 => state.remaining[at] = state.remaining[at].wrapping_add(near),
-            9 => state.work[i] = state.work[i].wrapping_add_signed(i64::from(near as i32)),
-            10 => state.work[i] = u64::from(r.number()),
-            _ => state.remaining[at] = r.number(),
+        let age = r.below_either(1, AGES);
+        match r.below(4) {
+            0 => damage_task(r, &mut state, i, age),
+            1 => displace(r, &mut state, i, age),
+            2 => damage_work(r, &mut state, i, age),
+            _ => match r.below(3) {
+                0 => state.clock = state.clock.wrapping_add(by_one(r)),
+                1 => state.phase = Phase::Stopped(r.number() as u8),
+                _ => state.phase = Phase::Running,
+            },
         }
     }
     if r.coin() {
-        state.work = std::array::from_fn(|i| summed(sixteen(&state.remaining, i)));
+        state.sum_up();
     }
     state
+}
+
+/// One more, one less or neither.
+fn by_one(r: &mut Random) -> u32 {
+    r.range(0, 2).wrapping_sub(1)
+}
+
+/// Another wait or deadline: near, any, or none.
+fn damage_task(r: &mut Random, state: &mut State, i: usize, age: usize) {
+    let near = by_one(r);
+    let task = &mut state.tasks[i];
+    let deadline = task.deadlines[age].unwrap_or(state.clock);
+    match r.below(6) {
+        0 => task.wait = r.number(),
+        1 => task.wait = task.wait.wrapping_add(near),
+        2 => task.deadlines[age] = None,
+        3 => task.deadlines[age] = Some(deadline),
+        // Also a job too near to the one before or behind it by one tick.
+        _ => task.deadlines[age] = Some(deadline.wrapping_add(near)),
+    }
+}
+
+/// A gap, a job in another's place, or two that change places.
+fn displace(r: &mut Random, state: &mut State, i: usize, age: usize) {
+    let other = r.below(AGES);
+    let (deadline, rest) = (state.tasks[i].deadlines[other], *state.rest(i, other));
+    match r.below(4) {
+        0 => state.clear_job(i, age),
+        1 => state.copy_job(i, age, other),
+        2 => {
+            state.copy_job(i, age, other);
+            state.clear_job(i, age);
+        }
+        _ => {
+            state.copy_job(i, age, other);
+            state.set_job(i, age, deadline, &rest);
+        }
+    }
+}
+
+/// Another number for what remains of a vertex, or for a job's stored work.
+fn damage_work(r: &mut Random, state: &mut State, i: usize, age: usize) {
+    let near = by_one(r);
+    let job = job_at(i, age);
+    let at = ENTRIES * job + r.below_either(3, ENTRIES);
+    match r.below(4) {
+        0 => state.remaining[at] = state.remaining[at].wrapping_add(near),
+        1 => state.work[job] = state.work[job].wrapping_add_signed(i64::from(near as i32)),
+        2 => state.work[job] = u64::from(r.number()),
+        _ => state.remaining[at] = r.number(),
+    }
 }

@@ -72,13 +72,23 @@ fn task(r: &mut Random, table: &mut Table, i: usize, v: usize) {
     } else {
         random_edges(r, v, density)
     };
+    let (deadline, period) = either_longer(r, one.min(other), one.max(other));
     table.tasks[i] = Task {
         v: v as u8,
-        deadline: one.min(other),
-        period: one.max(other),
+        deadline,
+        period,
         succ,
     };
     costs(r, table, i, ticks);
+}
+
+/// D and T from a smaller and a larger number: mostly D the smaller one; else
+/// T, if need be brought up to a quarter of D.
+fn either_longer(r: &mut Random, low: u32, high: u32) -> (u32, u32) {
+    if r.one_in(3) {
+        return (high, low.max(least_period(high)));
+    }
+    (low, high)
 }
 
 /// Costs for the vertices of a task, by `some` or 0: none of them 0, any of
@@ -165,7 +175,8 @@ pub fn near_edge_of(r: &mut Random, way: &Way, n: usize, most: usize, scale: u32
             task.deadline = r.range(scale.div_ceil(2), scale);
             let upto = MOST_TICKS.min(task.deadline.saturating_mul(2));
             let loose = r.range(task.deadline, upto);
-            task.period = if r.coin() { task.deadline } else { loose };
+            let short = r.range(least_period(task.deadline), task.deadline);
+            task.period = r.pick(&[task.deadline, task.deadline, loose, loose, short]);
         }
         if way.judge(&table).number == 0 || scale == MOST_TICKS {
             break;
@@ -225,16 +236,63 @@ pub fn tiny_table(r: &mut Random, roomy: bool) -> Table {
     let dear = if roomy { 1 } else { r.range(1, 6) };
     for i in 0..usize::from(table.n) {
         let v = r.range(low, 3) as usize;
-        let period = r.range(if roomy { 4 } else { 1 }, 6);
-        let least = if roomy { period - 2 } else { 1 };
+        let one = r.range(if roomy { 4 } else { 1 }, 6);
+        let other = r.range(if roomy { one - 2 } else { 1 }, one);
+        let (deadline, period) = either_longer(r, other, one);
         let density = r.pick(&[0, 6, 10, 16]);
         table.tasks[i] = Task {
             v: v as u8,
-            deadline: r.range(least, period),
+            deadline,
             period,
             succ: random_edges(r, v, density),
         };
         costs(r, &mut table, i, |r| r.range(1, dear));
+    }
+    table
+}
+
+/// A tiny table of one or two tasks with one or two vertices, T up to `most`
+/// and D up to four times T, for exhaustive exploration: costs grow as long as
+/// `accepts` says so.
+pub fn tiny_long(r: &mut Random, most: u32, accepts: impl Fn(&Table) -> bool) -> Table {
+    let mut table = Table {
+        m: r.range(1, 8) as u8,
+        n: r.range(1, 2) as u8,
+        ..Table::ZERO
+    };
+    for task in &mut table.tasks[..usize::from(table.n)] {
+        let v = r.range(1, 2) as usize;
+        let density = r.pick(&[0, 16]);
+        task.v = v as u8;
+        task.succ = random_edges(r, v, density);
+        task.period = r.range(1, most);
+        task.deadline = r.range(task.period, most_deadline(task.period));
+    }
+    for _ in 0..40 {
+        let i = r.below(usize::from(table.n));
+        let at = ENTRIES * i + r.below(usize::from(table.tasks[i].v));
+        let was = table.costs[at];
+        table.costs[at] = (was + 1).min(15);
+        if !accepts(&table) {
+            table.costs[at] = was;
+        }
+    }
+    table
+}
+
+/// A valid table whose jobs outlive the period: D up to four times T, and costs
+/// that take most of it.
+pub fn long_table(r: &mut Random) -> Table {
+    let n = r.below_either(3, ENTRIES) + 1;
+    let mut table = table_sized(r, n, 4);
+    table.m = r.pick(&[table.m, 8]);
+    for i in 0..n {
+        let period = r.range(1, 8);
+        let deadline = r.range(period, most_deadline(period));
+        let task = &mut table.tasks[i];
+        (task.deadline, task.period) = (deadline, period);
+        let most = deadline.div_ceil(u32::from(task.v));
+        costs(r, &mut table, i, |r| r.range(most.div_ceil(2), most));
     }
     table
 }

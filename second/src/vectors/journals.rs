@@ -1,7 +1,7 @@
 //! The stream of cases for the judge, and the answers.
 
 use super::{put_bytes, take_bytes};
-use crate::examples::{table_marks, TABLE_A};
+use crate::examples::{table_long, table_marks, TABLE_A};
 use crate::judge::{judge, put_row, Ruling};
 use crate::random::*;
 use crate::reader::read;
@@ -65,8 +65,11 @@ pub fn journal_summary(answers: &[Ruling]) -> String {
 pub fn journal_cases(seed: u64) -> Vec<JournalCase> {
     let r = &mut Random::new(seed);
     let mut cases = Vec::new();
-    cut_everywhere(r, &TABLE_A, &mut cases);
-    cut_everywhere(r, &file(&table_marks()), &mut cases);
+    cut_everywhere(r, &TABLE_A, 14, &mut cases);
+    cut_everywhere(r, &file(&table_marks()), 14, &mut cases);
+    let rows = busy_rows(r, &table_long(), 20);
+    cases.push((file(&table_long()), rows.concat()));
+    cut_everywhere(r, &file(&table_long()), 6, &mut cases);
     behind_a_miss(&mut cases);
     for round in 0..130 {
         let table = if round % 13 == 0 {
@@ -88,10 +91,11 @@ pub fn journal_cases(seed: u64) -> Vec<JournalCase> {
     cases
 }
 
-/// A run of a table, cut at every byte, and with each byte changed.
-fn cut_everywhere(r: &mut Random, file: &[u8], cases: &mut Vec<JournalCase>) {
+/// A run of a table of so many rows, cut at every byte, and with each byte
+/// changed.
+fn cut_everywhere(r: &mut Random, file: &[u8], rows: usize, cases: &mut Vec<JournalCase>) {
     let file = file.to_vec();
-    let rows = legal_rows(r, &read(&file).table, 14).concat();
+    let rows = legal_rows(r, &read(&file).table, rows).concat();
     for length in 0..=rows.len() {
         cases.push((file.clone(), rows[..length].to_vec()));
     }
@@ -108,9 +112,15 @@ fn behind_a_miss(cases: &mut Vec<JournalCase>) {
     late.tasks[0].deadline = 1;
     let late = crate::random::file(&late);
     let mut journal = Vec::new();
-    put_row(&mut journal, 1, &[(0, 0)]);
+    put_row(&mut journal, 1, &[(0, 0, 0)]);
     cases.push((late.clone(), journal.clone()));
-    for stray in [&b"J"[..], b"JR\0\0\0", b"XR\x01\0\x01\0\0"] {
+    for stray in [
+        &b"J"[..],
+        b"X",
+        b"JR\0\0\x01\0\0\0",
+        b"JR\0\0\0",
+        b"XR\x01\0\x01\0\0\0",
+    ] {
         cases.push((late.clone(), [&journal[..], stray].concat()));
     }
 }

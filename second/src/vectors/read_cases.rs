@@ -92,10 +92,12 @@ fn field_cases(table: &Table, cases: &mut Vec<Vec<u8>>) {
     }
 }
 
-/// D and T about one another: T one below, at and one above D.
+/// D and T about one another: T one below, at and one above D, and the same
+/// about the least T that goes with D.
 fn deadline_cases(r: &mut Random, cases: &mut Vec<Vec<u8>>) {
     for deadline in [1, 2, 255, 256, 65_535, 65_536, 999_999, 1_000_000] {
-        for period in deadline - 1..=deadline + 1 {
+        let least = least_period(deadline);
+        for period in (least - 1..=least + 1).chain(deadline - 1..=deadline + 1) {
             let n = r.below(3) + 1;
             let mut table = table_sized(r, n, 2);
             table.tasks[n - 1].deadline = deadline;

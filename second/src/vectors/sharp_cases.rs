@@ -1,7 +1,7 @@
 //! Cases for the sharp verdict and its report.
 
 use super::verdict_cases::*;
-use crate::examples::{table_lowest, table_marks, TABLE_A};
+use crate::examples::{table_long, table_lowest, table_marks, TABLE_A};
 use crate::random::*;
 use crate::sharp::SHARP;
 use crate::table::*;
@@ -74,6 +74,7 @@ pub fn sharp_cases(seed: u64) -> Vec<Vec<u8>> {
     let r = &mut Random::new(seed);
     let mut cases = vec![TABLE_A.to_vec()];
     about(r, &table_marks(), 30, &mut cases);
+    about(r, &table_long(), 30, &mut cases);
     edge_cases(r, &SHARP, 5, &mut cases);
     task_cases(r, &SHARP, &mut cases);
     extreme_cases(&mut cases);

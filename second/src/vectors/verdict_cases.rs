@@ -1,6 +1,6 @@
 //! Cases for the verdict and the report.
 
-use crate::examples::{plain_task, table_lowest, table_marks, table_p5, TABLE_A};
+use crate::examples::*;
 use crate::random::*;
 use crate::reader::read;
 use crate::table::*;
@@ -19,8 +19,8 @@ fn nudge(r: &mut Random, table: &mut Table) {
     let at = ENTRIES * i + r.below(usize::from(task.v));
     match r.below(8) {
         0 => table.m = r.range(1, 8) as u8,
-        1 | 2 => task.deadline = near(r, task.deadline).min(task.period),
-        3 => task.period = near(r, task.period).max(task.deadline),
+        1 | 2 => task.deadline = near(r, task.deadline).min(most_deadline(task.period)),
+        3 => task.period = near(r, task.period).max(least_period(task.deadline)),
         4 => table.costs[at] = ticks(r),
         5 => table.costs[at] = 0,
         _ => table.costs[at] = near(r, table.costs[at]),
@@ -132,7 +132,7 @@ fn roomy_cases(r: &mut Random, cases: &mut Vec<Vec<u8>>) {
         for i in 0..usize::from(table.n) {
             let task = &mut table.tasks[i];
             task.deadline = task.deadline.max(r.range(100, 5_000));
-            task.period = task.period.max(task.deadline);
+            task.period = task.period.max(least_period(task.deadline));
             for h in 0..usize::from(task.v) {
                 table.costs[ENTRIES * i + h] = r.range(1, 9);
             }
@@ -153,7 +153,7 @@ pub fn sized_cases(r: &mut Random, cases: &mut Vec<Vec<u8>>) {
 
 /// Files that reading refuses, and what damage leaves readable.
 fn refused_cases(r: &mut Random, cases: &mut Vec<Vec<u8>>) {
-    cut_and_changed(r, 4, cases);
+    cut_and_changed(r, 6, cases);
     damaged_cases(r, 200, cases);
     cyclic_cases(r, 60, cases);
 }
@@ -209,6 +209,7 @@ pub fn verdict_cases(seed: u64) -> Vec<Vec<u8>> {
     one[2] = 1;
     cases.push(one);
     about(r, &table_marks(), 40, &mut cases);
+    about(r, &table_long(), 40, &mut cases);
     edge_cases(r, &OLD, 20, &mut cases);
     task_cases(r, &OLD, &mut cases);
     extreme_cases(&mut cases);

@@ -1,17 +1,18 @@
 //! Cases for the watch program.
 
-use crate::examples::{table_marks, TABLE_A};
+use crate::examples::{table_long, table_marks, TABLE_A};
 use crate::random::*;
 use crate::watch::Run;
 
 /// Inputs: table A's examples, one cut short at every place, a table with marks
-/// of cost 0, random runs, and some of large tables.
+/// of cost 0, one with long deadlines, random runs, and some of large tables.
 pub fn watch_cases(seed: u64) -> Vec<Vec<u8>> {
     let r = &mut Random::new(seed);
     let by_hand = by_hand(0);
     let mut cases: Vec<Vec<u8>> = (0..=by_hand.len()).map(|n| by_hand[..n].to_vec()).collect();
     cases.push(self::by_hand(4_294_967_286));
     cases.extend([0, 4_294_967_290].map(marks));
+    cases.extend([0, 4_294_967_290].map(long_deadlines));
     cases.extend(lengths(&by_hand));
     cases.extend(second_edges(&by_hand));
     while cases.len() < 500 {
@@ -59,6 +60,21 @@ fn marks(clock: u32) -> Vec<u8> {
     releases.extend([7, 0, 2]);
     let run = Run {
         table: file(&table_marks()),
+        clock,
+        releases,
+    };
+    run.input()
+}
+
+/// Each task of the table of long deadlines named as soon as it may be, and
+/// twice too early.
+fn long_deadlines(clock: u32) -> Vec<u8> {
+    let set = |tick: u16| u16::from(tick % 4 == 0) | u16::from(tick % 2 == 0) << 1;
+    let mut releases: Vec<u16> = (0..26).map(set).collect();
+    releases.insert(14, 1);
+    releases.insert(7, 2);
+    let run = Run {
+        table: file(&table_long()),
         clock,
         releases,
     };

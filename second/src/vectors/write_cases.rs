@@ -128,7 +128,7 @@ fn unused_cases(cases: &mut Vec<WriteCase>) {
         (FIELD_N, 0),
         (field_v(1), 0),
         (field_d(1), 0),
-        (field_t(0), 9),
+        (field_t(0), 2),
         (field_cost(1, 1), 1_000_001),
         (field_succ(1, 1), 2),
         (field_succ(0, 2), 1),

@@ -10,10 +10,10 @@ smaller-requires : tie.Need-smaller-requires
 smaller-requires c κs = search needs
 
 array-share-prefix-words : tie.Need-array-share-prefix-words
-array-share-prefix-words c = let h : length (c .before .before .args .line .bytes) ≡ 640 = search needs in omega arith
+array-share-prefix-words c = let h : length (c .before .before .args .line .bytes) ≡ 2048 = search needs in omega arith
 
 slice-aggregate-write-all : tie.Need-slice-aggregate-write-all
-slice-aggregate-write-all c = let h : length (c .before .before .before .args .line .bytes) ≡ 640 = search needs in simp length-take (omega arith)
+slice-aggregate-write-all c = let h : length (c .before .before .before .args .line .bytes) ≡ 2048 = search needs in simp length-take (omega arith)
 
 write-all-requires : tie.Need-write-all-requires
 write-all-requires c κs = search needs

@@ -19,8 +19,10 @@ fn main() -> ExitCode {
     println!("seed {seed}, rule {rule:?}, times {times:?}");
     let mut tour = Tour::new(&options);
     let good = tour.very_small(options.small)
+        && tour.very_long(options.long)
         && tour.random(options.seed, options.tables)
-        && tour.forks(options.seed, options.forks);
+        && tour.forks(options.seed, options.forks)
+        && tour.long(options.seed, options.long_tables);
     if !good {
         return ExitCode::FAILURE;
     }

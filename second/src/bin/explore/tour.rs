@@ -2,11 +2,14 @@
 
 use crate::options::Options;
 use second::explore::*;
-use second::random::{tiny_fork, tiny_table, Random};
+use second::random::{tiny_fork, tiny_long, tiny_table, Random};
 use second::sharp::sharp_figures;
 use second::table::{Table, ENTRIES};
 use second::verdict::{figures, Figures};
 use std::time::{Duration, Instant};
+
+/// What is done with each table; false to stop.
+type Each<'a> = &'a mut dyn FnMut(&Table) -> bool;
 
 /// Sums over all tables so far.
 pub struct Tour {
@@ -21,6 +24,7 @@ pub struct Tour {
     states: u64,
     ticks: u64,
     most: u64,
+    most_live: usize,
     zero_margins: u64,
 }
 
@@ -38,6 +42,7 @@ impl Tour {
             states: 0,
             ticks: 0,
             most: 0,
+            most_live: 0,
             zero_margins: 0,
         }
     }
@@ -50,17 +55,25 @@ impl Tour {
     /// All very small tables with numbers up to this; false if something is
     /// wrong, here and below.
     pub fn very_small(&mut self, most: u32) -> bool {
-        if most == 0 {
-            return true;
-        }
+        self.all_of("numbers", most, |most, each| small_tables(most, each))
+    }
+
+    /// All very small tables with T up to this and D up to four times T.
+    pub fn very_long(&mut self, most: u32) -> bool {
+        self.all_of("T", most, |most, each| long_tables(most, each))
+    }
+
+    fn all_of(&mut self, what: &str, most: u32, tables: fn(u32, Each) -> bool) -> bool {
+        let (looked_at, explored) = (self.looked_at, self.tables);
         let mut good = true;
-        small_tables(most, |table| {
+        let whole = tables(most, &mut |table| {
             good = self.processors.is_some_and(|m| m != table.m) || self.visit(table);
             good && !self.over()
         });
-        if good {
-            let (all, tables) = (self.looked_at, self.tables);
-            println!("all {all} very small tables (numbers up to {most}): {tables} accepted and explored");
+        if good && most > 0 {
+            let word = if whole { "all" } else { "the first" };
+            let (count, tables) = (self.looked_at - looked_at, self.tables - explored);
+            println!("{word} {count} very small tables ({what} up to {most}): {tables} accepted and explored");
         }
         good
     }
@@ -89,12 +102,24 @@ impl Tour {
 
     /// So many random tables of a short job beside a long fork.
     pub fn forks(&mut self, seed: u64, count: u64) -> bool {
+        let rule = self.rule;
+        self.drawn(seed, count, |r| tiny_fork(r, |table| accepts(rule, table)))
+    }
+
+    /// So many random tables with a D of up to four times T.
+    pub fn long(&mut self, seed: u64, count: u64) -> bool {
+        let (rule, small) = (self.rule, self.how.times != Times::Stated);
+        let most = if small { 2 } else { 4 };
+        self.drawn(seed, count, |r| {
+            tiny_long(r, most, |table| accepts(rule, table))
+        })
+    }
+
+    fn drawn(&mut self, seed: u64, count: u64, draw: impl Fn(&mut Random) -> Table) -> bool {
         let mut r = Random::new(seed);
         let upto = self.tables + count;
-        let rule = self.rule;
         while self.tables < upto && !self.over() {
-            let table = tiny_fork(&mut r, |table| accepts(rule, table));
-            if !self.visit(&table) {
+            if !self.visit(&draw(&mut r)) {
                 return false;
             }
         }
@@ -112,6 +137,7 @@ impl Tour {
         self.states += found.states;
         self.ticks += found.ticks;
         self.most = self.most.max(found.states);
+        self.most_live = self.most_live.max(found.most_live);
         self.zero_margins += u64::from(least_margin(self.rule, table) == 0);
         if let Some((wrong, run)) = &found.wrong {
             show(self.rule, table, wrong, run, &found);
@@ -126,9 +152,10 @@ impl Tour {
 
     pub fn sum_up(&self) {
         println!(
-            "{} looked at; most states of a table {}; {} tables with margin 0; {:.1} s",
+            "{} looked at; most states of a table {}, most live jobs of a task {}; {} tables with margin 0; {:.1} s",
             self.looked_at,
             self.most,
+            self.most_live,
             self.zero_margins,
             self.begun.elapsed().as_secs_f64()
         );
@@ -170,6 +197,7 @@ fn show(rule: Rule, table: &Table, wrong: &Wrong, run: &[Step], found: &Found) {
         Wrong::Chain(task) => println!("CHAIN TOO LONG: task {task}"),
         Wrong::Misfit => println!("THE STATE DOESN'T FIT"),
         Wrong::Early(task) => println!("TOO EARLY: task {task}"),
+        Wrong::Lost(task) => println!("A JOB LOST: task {task}"),
     }
     let chains = found.chains_too_long;
     println!("{chains} chains too long were seen in this table before that");
@@ -193,11 +221,12 @@ fn show_step(tick: usize, step: &Step) {
     print!("tick {tick}: released");
     let named = (0..ENTRIES).filter(|i| step.releases >> i & 1 == 1);
     named.for_each(|i| print!(" {i}"));
-    for ((i, h), ticks) in &step.off_cost {
-        print!("; {i}.{h} takes {ticks}");
+    for ((i, age, h), ticks) in &step.off_cost {
+        print!("; {i}.{age}.{h} takes {ticks}");
     }
     print!("; ran");
-    step.ran.iter().for_each(|(i, h)| print!(" {i}.{h}"));
+    let ran = step.ran.iter();
+    ran.for_each(|(i, age, h)| print!(" {i}.{age}.{h}"));
     println!();
 }
 

@@ -84,6 +84,10 @@ returns-7 c =
     let e = c .before .before .before .before .before .before .edge-count .ensures .0 in
     c .stop7 .ensures ∙ t-over (a .task) (a .costs .now) (a .slot) (a .at) (omega arith) (omega arith) (omega arith) (omega arith) (omega arith) (omega arith)
 
+-- T is in its range by then, so four times T does not wrap
+mul-if8 : tie.Need-mul-if8
+mul-if8 c = search needs
+
 stop-requires-8 : tie.Need-stop-requires-8
 stop-requires-8 c κs = search needs
 
@@ -126,6 +130,7 @@ check-task-spec =
     returns-6
     stop-requires-7
     returns-7
+    mul-if8
     stop-requires-8
     returns-8
     check-parts-requires

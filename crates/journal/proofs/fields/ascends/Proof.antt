@@ -6,13 +6,13 @@ use lib.Dec.{ltb}
 use borrow.Author.Needs.{needs}
 use borrow.Author.Tests.{lt-ltb, le-ltb}
 use Rattle.graph.specs.Words.{all}
-use Rattle.fitness.proofs.Behind.{all-more, all-off, all-done}
-use Rattle.journal.specs.Rows.{rowEnd, rowPair, ascending}
+use Rattle.slots.proofs.Behind.{all-more, all-off, all-done}
+use Rattle.journal.specs.Rows.{rowEnd, rowTriple, ascending}
 use Rattle.journal.proofs.fields.ascends.Statement.{statement}
 use Rattle.journal.proofs.fields.ascends.Tie as tie
 
 abbrev Inv-loop : tie.InvT-loop
-Inv-loop bytes at count j₀ j = (j ≤ count - 1) × (all j (λ k. ltb (rowPair bytes at k) (rowPair bytes at (k + 1))) ≡ true)
+Inv-loop bytes at count j₀ j = (j ≤ count - 1) × (all j (λ k. ltb (rowTriple bytes at k) (rowTriple bytes at (k + 1))) ≡ true)
 
 abbrev μ-loop : tie.MeasureT-loop
 μ-loop bytes at count j₀ j = count - j
@@ -28,23 +28,23 @@ loop-holds c = (omega arith, refl)
 add-loop : tie.Need-add-loop Inv-loop μ-loop
 add-loop c = search needs
 
-pair-at-requires : tie.Need-pair-at-requires Inv-loop μ-loop
+triple-at-requires : tie.Need-triple-at-requires Inv-loop μ-loop
 unfolding rowEnd
-pair-at-requires c κs = omega arith
+triple-at-requires c κs = omega arith
 
-add-pair-at : tie.Need-add-pair-at Inv-loop μ-loop
-add-pair-at c = search needs
+add-triple-at : tie.Need-add-triple-at Inv-loop μ-loop
+add-triple-at c = search needs
 
-pair-at-requires-2 : tie.Need-pair-at-requires-2 Inv-loop μ-loop
+triple-at-requires-2 : tie.Need-triple-at-requires-2 Inv-loop μ-loop
 unfolding rowEnd
-pair-at-requires-2 c κs = omega arith
+triple-at-requires-2 c κs = omega arith
 
 returns : tie.Need-returns Inv-loop μ-loop
 unfolding ascending
 returns c =
     let l = c .before .before .before .before .loop in
     let a = c .before .before .before .before .before .before .before .args in
-    all-off _ _ (l .j) (omega arith) (le-ltb (rowPair (a .bytes .now) (a .at) (l .j)) (rowPair (a .bytes .now) (a .at) (l .j + 1)) (omega arith))
+    all-off _ _ (l .j) (omega arith) (le-ltb (rowTriple (a .bytes .now) (a .at) (l .j)) (rowTriple (a .bytes .now) (a .at) (l .j + 1)) (omega arith))
 
 add-j : tie.Need-add-j Inv-loop μ-loop
 add-j c = search needs
@@ -56,7 +56,7 @@ loop-again : tie.Need-loop-again Inv-loop μ-loop
 loop-again c =
     let l = c .before .before .before .before .loop in
     let a = c .before .before .before .before .before .before .before .args in
-    (omega arith, all-more _ _ (l .inv .1) (lt-ltb (rowPair (a .bytes .now) (a .at) (l .j)) (rowPair (a .bytes .now) (a .at) (l .j + 1)) (omega arith)))
+    (omega arith, all-more _ _ (l .inv .1) (lt-ltb (rowTriple (a .bytes .now) (a .at) (l .j)) (rowTriple (a .bytes .now) (a .at) (l .j + 1)) (omega arith)))
 
 returns-2 : tie.Need-returns-2 Inv-loop μ-loop
 unfolding ascending
@@ -73,9 +73,9 @@ ascends-spec =
     count-at-requires
     loop-holds
     add-loop
-    pair-at-requires
-    add-pair-at
-    pair-at-requires-2
+    triple-at-requires
+    add-triple-at
+    triple-at-requires-2
     returns
     add-j
     loop-less

@@ -1,6 +1,6 @@
 use native.Mathlib.Omega.{arith}
 use borrow.Author.Needs.{needs}
-use Rattle.journal.proofs.RowTests.{cut-head, cut-pairs}
+use Rattle.journal.proofs.RowTests.{cut-head, cut-triples}
 use Rattle.journal.proofs.fields.is_cut.Statement.{statement}
 use Rattle.journal.proofs.fields.is_cut.Tie as tie
 
@@ -28,7 +28,7 @@ add-needed c = search needs
 returns-3 : tie.Need-returns-3
 returns-3 c =
     let a = c .before .before .before .before .before .args in
-    cut-pairs (a .bytes .now) (a .at) _ (c .wide .result) (omega arith) (c .wide .ensures .0)
+    cut-triples (a .bytes .now) (a .at) _ (c .wide .result) (omega arith) (c .wide .ensures .0)
 
 pub is-cut-spec : {M : Type 1} → statement M
 is-cut-spec =

@@ -8,16 +8,16 @@ use borrow.Author.Tests.{ltb-true, ltb-false}
 use lib.ListN.{getD}
 use lib.Dec.{leb, eqb}
 use Rattle.graph.specs.Words.{all}
-use Rattle.fitness.proofs.Behind.{all-more, all-off, all-done}
+use Rattle.slots.proofs.Behind.{all-more, all-off, all-done}
 use Rattle.journal.proofs.RowTests.{no-later, later-ticks, later-none}
 use Rattle.journal.proofs.lists.is_sooner.Statement.{statement}
 use Rattle.journal.proofs.lists.is_sooner.Tie as tie
 
 abbrev Inv-loop : tie.InvT-loop
-Inv-loop most rest ticks i₀ i = (i ≤ 16) × (all i (λ k. eqb (getD rest k 0) 0 || leb most (getD ticks k 0)) ≡ true)
+Inv-loop most rest ticks k₀ k = (k ≤ 64) × (all k (λ j. eqb (getD rest j 0) 0 || leb most (getD ticks j 0)) ≡ true)
 
 abbrev μ-loop : tie.MeasureT-loop
-μ-loop most rest ticks i₀ i = 16 - i
+μ-loop most rest ticks k₀ k = 64 - k
 
 loop-holds : tie.Need-loop-holds Inv-loop μ-loop
 unfolding all
@@ -39,12 +39,12 @@ returns : tie.Need-returns Inv-loop μ-loop
 returns c =
     let l = c .before .before .before .loop in
     let a = c .before .before .before .before .args in
-    let x = getD (a .t1) (l .i) 0 in
-    let k = getD (a .t2) (l .i) 0 in
-    ap not (all-off _ _ (l .i) (omega arith) (no-later x (a .most) k (c .before .if1 .taken) (ltb-true k (a .most) (c .if2 .taken))))
+    let x = getD (a .t1) (l .k) 0 in
+    let y = getD (a .t2) (l .k) 0 in
+    ap not (all-off _ _ (l .k) (omega arith) (no-later x (a .most) y (c .before .if1 .taken) (ltb-true y (a .most) (c .if2 .taken))))
 
-add-i : tie.Need-add-i Inv-loop μ-loop
-add-i c = search needs
+add-k : tie.Need-add-k Inv-loop μ-loop
+add-k c = search needs
 
 loop-less : tie.Need-loop-less Inv-loop μ-loop
 loop-less c = search needs
@@ -53,15 +53,15 @@ loop-again : tie.Need-loop-again Inv-loop μ-loop
 loop-again c =
     let l = c .before .before .loop in
     let a = c .before .before .before .args in
-    let x = getD (a .t1) (l .i) 0 in
-    let k = getD (a .t2) (l .i) 0 in
+    let x = getD (a .t1) (l .k) 0 in
+    let y = getD (a .t2) (l .k) 0 in
     ⊎-elim
-    (λ w. (omega arith, all-more _ _ (l .inv .1) (later-ticks x (a .most) k (ltb-false k (a .most) (w .1 .left)))))
-    (λ w. (omega arith, all-more _ _ (l .inv .1) (later-none x (a .most) k (w .left))))
+    (λ w. (omega arith, all-more _ _ (l .inv .1) (later-ticks x (a .most) y (ltb-false y (a .most) (w .1 .left)))))
+    (λ w. (omega arith, all-more _ _ (l .inv .1) (later-none x (a .most) y (w .left))))
     (c .if1 .came)
 
 returns-2 : tie.Need-returns-2 Inv-loop μ-loop
-returns-2 c = ap not (all-done _ _ (c .before .loop .i) (omega arith) (c .before .loop .inv .1))
+returns-2 c = ap not (all-done _ _ (c .before .loop .k) (omega arith) (c .before .loop .inv .1))
 
 pub is-sooner-spec : {M : Type 1} → statement M
 is-sooner-spec =
@@ -75,7 +75,7 @@ is-sooner-spec =
     mul-if2
     array-read-if2
     returns
-    add-i
+    add-k
     loop-less
     loop-again
     returns-2)

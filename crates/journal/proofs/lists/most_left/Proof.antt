@@ -5,8 +5,9 @@ use native.Mathlib.Omega.{arith}
 use borrow.Author.Needs.{needs}
 use lib.ListN.{getD}
 use Rattle.graph.specs.Words.{largest}
-use Rattle.journal.specs.Rows.{rowCount, rowTask, rowEnd}
-use Rattle.journal.specs.Listing.{AreVertices}
+use Rattle.journal.specs.Rows.{rowCount, rowEnd}
+use Rattle.journal.specs.Listing.{rowSlot}
+use Rattle.journal.proofs.SetTests.{slot-small}
 use Rattle.journal.proofs.lists.most_left.Statement.{statement}
 use Rattle.journal.proofs.lists.most_left.Tie as tie
 
@@ -15,7 +16,7 @@ unfolding largest
 largest-next n f = ap (λ (k : ℕ). largest k f) (add-one n)
 
 abbrev Inv-loop : tie.InvT-loop
-Inv-loop bytes at ticks count most₀ j₀ most j = (j ≤ count) × (most ≡ largest j (λ k. getD ticks (rowTask bytes at k) 0))
+Inv-loop bytes at ticks count most₀ j₀ most j = (j ≤ count) × (most ≡ largest j (λ k. getD ticks (rowSlot bytes at k) 0))
 
 abbrev μ-loop : tie.MeasureT-loop
 μ-loop bytes at ticks count most₀ j₀ most j = count - j
@@ -28,23 +29,17 @@ loop-holds : tie.Need-loop-holds Inv-loop μ-loop
 unfolding largest
 loop-holds c = (omega arith, refl)
 
-task-at-requires : tie.Need-task-at-requires Inv-loop μ-loop
+slot-at-requires : tie.Need-slot-at-requires Inv-loop μ-loop
 unfolding rowEnd
-task-at-requires c κs = omega arith
+slot-at-requires c κs =
+    let l = c .before .loop in
+    (omega arith, slot-small _ _ (c .before .before .before .before .pre .1) (l .j) (omega arith))
 
 mul-larger : tie.Need-mul-larger Inv-loop μ-loop
-unfolding AreVertices
-mul-larger c =
-    let l = c .before .before .loop in
-    let v = c .before .before .before .before .before .pre .1 (l .j) (omega arith) in
-    omega (arith, v .0)
+mul-larger c = search needs
 
 array-read-larger : tie.Need-array-read-larger Inv-loop μ-loop
-unfolding AreVertices
-array-read-larger c =
-    let l = c .before .before .loop in
-    let v = c .before .before .before .before .before .pre .1 (l .j) (omega arith) in
-    omega (arith, v .0)
+array-read-larger c = search needs
 
 larger-requires : tie.Need-larger-requires Inv-loop μ-loop
 larger-requires c κs = search needs
@@ -59,10 +54,10 @@ loop-again : tie.Need-loop-again Inv-loop μ-loop
 loop-again c =
     let l = c .before .before .before .loop in
     let a = c .before .before .before .before .before .before .args in
-    let f : ℕ → ℕ = λ k. getD (a .t1) (rowTask (a .bytes .now) (a .at) k) 0 in (
+    let f : ℕ → ℕ = λ k. getD (a .t1) (rowSlot (a .bytes .now) (a .at) k) 0 in (
       omega arith,
       c .larger .ensures
-          ∙ ap (λ (i : ℕ). max (l .most) (getD (a .t1) i 0)) (c .before .task-at .ensures .0)
+          ∙ ap (λ (i : ℕ). max (l .most) (getD (a .t1) i 0)) (c .before .slot-at .ensures .0)
           ∙ ap (λ (b : ℕ). max b (f (l .j))) (l .inv .1)
           ∙ sym (largest-next (l .j) f),
     )
@@ -72,7 +67,7 @@ returns c =
     let l = c .before .loop in
     let a = c .before .before .before .before .args in
     let e : l .j ≡ rowCount (a .bytes .now) (a .at) = omega arith in
-    l .inv .1 ∙ ap (λ (n : ℕ). largest n (λ k. getD (a .t1) (rowTask (a .bytes .now) (a .at) k) 0)) e
+    l .inv .1 ∙ ap (λ (n : ℕ). largest n (λ k. getD (a .t1) (rowSlot (a .bytes .now) (a .at) k) 0)) e
 
 pub most-left-spec : {M : Type 1} → statement M
 most-left-spec =
@@ -82,7 +77,7 @@ most-left-spec =
     μ-loop
     count-at-requires
     loop-holds
-    task-at-requires
+    slot-at-requires
     mul-larger
     array-read-larger
     larger-requires

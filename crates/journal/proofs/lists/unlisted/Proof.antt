@@ -1,10 +1,10 @@
-use mathlib.Core.Path.{sym, ap₂, _∙_}
+use mathlib.Core.Path.{_≡_, sym, ap, _∙_}
 use Prim.Native.Nat.{ℕ, _+_, _*_, _-_, _≤_}
 use native.Mathlib.Omega.{arith}
 use borrow.Author.Needs.{needs}
-use Rattle.journal.specs.Rows.{rowEnd, listed}
-use Rattle.journal.specs.Listing.{AreVertices}
-use Rattle.journal.proofs.SetTests.{TakenTo, none-taken, one-taken, all-taken, listed-length, listed-at}
+use Rattle.journal.specs.Rows.{rowTask, rowAge, rowKey, rowEnd, listed}
+use Rattle.journal.specs.Listing.{AreVertices, rowSlot}
+use Rattle.journal.proofs.SetTests.{TakenTo, none-taken, one-taken, all-taken, listed-length, listed-at, slot-small}
 use Rattle.journal.proofs.lists.unlisted.Statement.{statement}
 use Rattle.journal.proofs.lists.unlisted.Tie as tie
 
@@ -21,48 +21,38 @@ count-at-requires c κs = omega arith
 loop-holds : tie.Need-loop-holds Inv-loop μ-loop
 loop-holds c = (omega arith, none-taken _ _ (search needs))
 
-task-at-requires : tie.Need-task-at-requires Inv-loop μ-loop
+slot-at-requires : tie.Need-slot-at-requires Inv-loop μ-loop
 unfolding rowEnd
-task-at-requires c κs = omega arith
+slot-at-requires c κs =
+    let l = c .before .loop in
+    (omega arith, slot-small _ _ (c .before .before .before .before .pre .1) (l .j) (omega arith))
 
 vertex-at-requires : tie.Need-vertex-at-requires Inv-loop μ-loop
 unfolding rowEnd
 vertex-at-requires c κs = omega arith
 
 mul-taken-out : tie.Need-mul-taken-out Inv-loop μ-loop
-unfolding AreVertices
-mul-taken-out c =
-    let l = c .before .before .before .loop in
-    let v = c .before .before .before .before .before .before .pre .1 (l .j) (omega arith) in
-    omega (arith, v .0)
+mul-taken-out c = search needs
 
 array-read-taken-out : tie.Need-array-read-taken-out Inv-loop μ-loop
-unfolding AreVertices
 array-read-taken-out c =
     let l = c .before .before .before .loop in
-    let v = c .before .before .before .before .before .before .pre .1 (l .j) (omega arith) in
-    omega (arith, v .0, l .inv .1 .long)
+    omega (arith, l .inv .1 .long)
 
 taken-out-requires : tie.Need-taken-out-requires Inv-loop μ-loop
 unfolding AreVertices
 taken-out-requires c κs =
     let l = c .before .before .before .loop in
     let v = c .before .before .before .before .before .before .pre .1 (l .j) (omega arith) in
-    omega (arith, v .1)
+    omega (arith, v .2)
 
 mul-rest : tie.Need-mul-rest Inv-loop μ-loop
-unfolding AreVertices
-mul-rest c =
-    let l = c .before .before .before .before .loop in
-    let v = c .before .before .before .before .before .before .before .pre .1 (l .j) (omega arith) in
-    omega (arith, v .0)
+mul-rest c = search needs
 
 array-write-rest : tie.Need-array-write-rest Inv-loop μ-loop
-unfolding AreVertices
 array-write-rest c =
     let l = c .before .before .before .before .loop in
-    let v = c .before .before .before .before .before .before .before .pre .1 (l .j) (omega arith) in
-    omega (arith, v .0, l .inv .1 .long)
+    omega (arith, l .inv .1 .long)
 
 add-j : tie.Need-add-j Inv-loop μ-loop
 add-j c = search needs
@@ -71,19 +61,21 @@ loop-less : tie.Need-loop-less Inv-loop μ-loop
 loop-less c = search needs
 
 loop-again : tie.Need-loop-again Inv-loop μ-loop
-unfolding AreVertices
+unfolding AreVertices rowKey rowSlot
 loop-again c =
     let l = c .before .before .before .before .loop in
     let s = c .before .before .before .before .before .before .before in
     let b = s .args .bytes .now in
     let n = listed-length b (s .args .at) in
     let v = s .pre .1 (l .j) (omega arith) in
-    let i = c .before .before .task-at in
-    let u = c .before .vertex-at in (
+    let k = c .before .before .slot-at in
+    let u = c .before .vertex-at in
+    let i = rowTask b (s .args .at) (l .j) in
+    let p = rowAge b (s .args .at) (l .j) in (
       omega arith,
-      one-taken _ (listed b (s .args .at)) (l .j) (l .rest) (l .inv .1) (i .result) (u .result) (c .taken-out .result) (omega arith)
-          (ap₂ (λ (x y : ℕ). 16 * x + y) (i .ensures .0) (u .ensures .0) ∙ sym (listed-at b (s .args .at) (l .j) (omega arith)))
-          (omega (arith, v .0)) (omega (arith, v .1)) (c .taken-out .ensures),
+      one-taken _ (listed b (s .args .at)) (l .j) (l .rest) (l .inv .1) i p (u .result) (k .result) (c .taken-out .result) (omega arith)
+          (ap (λ (x : ℕ). 64 * i + 16 * p + x) (u .ensures .0) ∙ sym (listed-at b (s .args .at) (l .j) (omega arith)))
+          (k .ensures .0) (v .0) (v .1) (omega (arith, v .2)) (c .taken-out .ensures),
     )
 
 returns : tie.Need-returns Inv-loop μ-loop
@@ -101,7 +93,7 @@ unlisted-spec =
     μ-loop
     count-at-requires
     loop-holds
-    task-at-requires
+    slot-at-requires
     vertex-at-requires
     mul-taken-out
     array-read-taken-out

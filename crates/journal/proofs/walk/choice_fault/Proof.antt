@@ -6,12 +6,14 @@ use lib.Dec.{ltb}
 use lib.Count.{ones}
 use native.Mathlib.Omega.{arith}
 use borrow.Author.Needs.{needs}
+use borrow.Author.Tests.{not-false}
 use Rattle.graph.specs.Words.{sum}
 use Rattle.table.specs.declared.Table.{Table}
 use Rattle.machine.specs.declared.State.{State}
 use Rattle.machine.specs.Steps.{released, offered}
 use Rattle.journal.specs.Rows.{rowEnd, listed, notAvailable, tooFew, passesOver}
-use Rattle.journal.proofs.SetTests.{all-in, all-vertices, all-counted}
+use Rattle.journal.proofs.SetTests.{all-in}
+use Rattle.journal.proofs.Counted.{all-counted}
 use Rattle.journal.proofs.RowFaults.{choice-44, choice-45, choice-46, choice-0, few-is, offered-sets, offered-left}
 use Rattle.journal.proofs.walk.choice_fault.Statement.{statement}
 use Rattle.journal.proofs.walk.choice_fault.Tie as tie
@@ -27,7 +29,7 @@ module _ (t : Table) (st : State) (set : ℕ) where
   few c e o =
       let a = c .before .before .before .before .before .before .args in
       let j = c .before .count-at in
-      let n = sum 16 (λ i. ones (getD (a .offer .sets) i 0)) in
+      let n = sum 64 (λ k. ones (getD (a .offer .sets) k 0)) in
       few-is t (released t st set) (a .bytes .now) (a .at) (c .is-few .result) (j .result) n
       (c .is-few .ensures ∙ ap (λ (m : ℕ). ltb (j .result) (min m n)) e) (j .ensures .0)
       (all-counted t (released t st set) (a .offer .sets) n (offered-sets t st set (a .offer) o) refl)
@@ -66,9 +68,8 @@ returns-2 c t st set e o =
 
 is-passing-over-requires : tie.Need-is-passing-over-requires
 is-passing-over-requires c κs =
-    let a = c .before .before .before .before .before .before .before .before .args in
     let k = c .before .before .before .before .before .are-in in
-    (c .before .before .before .before .before .before .before .before .pre, all-vertices (a .bytes .now) (a .at) (a .offer .sets) (k .result) (k .ensures) (c .before .before .before .before .if1 .left))
+    (c .before .before .before .before .before .before .before .before .pre, sym (k .ensures) ∙ not-false (k .result) (c .before .before .before .before .if1 .left))
 
 returns-3 : tie.Need-returns-3
 returns-3 c t st set e o =

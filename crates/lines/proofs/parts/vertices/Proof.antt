@@ -4,7 +4,6 @@ use Prim.Native.Nat.{_+_, _*_, _-_, _≤_}
 use native.Mathlib.Omega.{arith}
 use lib.ListN.{length, take}
 use borrow.Author.Needs.{needs}
-use Rattle.machine.proofs.Filling.{length-mapped}
 use Rattle.text.specs.Laid.{Put}
 use Rattle.lines.specs.Lines.{verticesText}
 use Rattle.text.proofs.Putting.{put-same, put-none, put-then, put-long}
@@ -13,7 +12,7 @@ use Rattle.lines.proofs.parts.vertices.Statement.{statement}
 use Rattle.lines.proofs.parts.vertices.Tie as tie
 
 abbrev Inv-loop : tie.InvT-loop
-Inv-loop out₀ at ran p₀ j₀ out p j = (j ≤ 8) × (p ≤ at + 80 * j) × Put out₀ at (verticesText (take j ran)) out p
+Inv-loop out₀ at ran p₀ j₀ out p j = (j ≤ 8) × (p ≤ at + 120 * j) × Put out₀ at (verticesText (take j ran)) out p
 
 abbrev μ-loop : tie.MeasureT-loop
 μ-loop out₀ at ran p₀ j₀ out p j = 8 - j
@@ -21,11 +20,11 @@ abbrev μ-loop : tie.MeasureT-loop
 loop-holds : tie.Need-loop-holds Inv-loop μ-loop
 loop-holds c = (omega arith, omega arith, put-same (put-none _ _) (no-vertex (c .before .args .t3)))
 
-mul-pair : tie.Need-mul-pair Inv-loop μ-loop
-mul-pair c = search needs
+mul-triple : tie.Need-mul-triple Inv-loop μ-loop
+mul-triple c = search needs
 
-array-copy-out-pair : tie.Need-array-copy-out-pair Inv-loop μ-loop
-array-copy-out-pair c = search needs
+array-copy-out-triple : tie.Need-array-copy-out-triple Inv-loop μ-loop
+array-copy-out-triple c = search needs
 
 vertex-requires : tie.Need-vertex-requires Inv-loop μ-loop
 vertex-requires c κs = search needs
@@ -41,7 +40,7 @@ loop-again c =
     let v = c .before .before in
     let l = v .before .before .before .before .loop in
     let a = v .before .before .before .before .before .before .args .t3 in
-    let n : length a ≡ 8 = search (needs, length-mapped) in
+    let n : length a ≡ 8 = search needs in
     (omega arith, omega arith, put-same (put-then (l .inv .2) (v .vertex .ensures .0)) (one-vertex a (l .j) _ (omega arith)))
 
 dash-requires : tie.Need-dash-requires Inv-loop μ-loop
@@ -55,7 +54,7 @@ returns c =
     let d = c .before .before in
     let l = d .before .before .before .loop in
     let a = d .before .before .before .before .before .args .t3 in
-    let n : length a ≡ 8 = search (needs, length-mapped) in
+    let n : length a ≡ 8 = search needs in
     (put-dash (put-same (l .inv .2) (all-vertices a (l .j) (omega arith))) (d .dash .ensures .0), omega arith)
 
 pub vertices-spec : {M : Type 1} → statement M
@@ -65,8 +64,8 @@ vertices-spec =
     Inv-loop
     μ-loop
     loop-holds
-    mul-pair
-    array-copy-out-pair
+    mul-triple
+    array-copy-out-triple
     vertex-requires
     add-j
     loop-less

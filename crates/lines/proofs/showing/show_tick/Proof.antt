@@ -6,8 +6,8 @@ use Rattle.lines.proofs.showing.show_tick.Tie as tie
 tick-requires : tie.Need-tick-requires
 tick-requires c κs = search needs
 
-live-set-requires : tie.Need-live-set-requires
-live-set-requires c κs = search needs
+live-slots-requires : tie.Need-live-slots-requires
+live-slots-requires c κs = search needs
 
 tick-line-requires : tie.Need-tick-line-requires
 tick-line-requires c κs = search needs
@@ -16,7 +16,7 @@ returns : tie.Need-returns
 returns c =
     let s = c .before .before in
     let t = s .before .before .before .before .tick in
-    tick-shown _ _ _ _ (t .result) _ (c .tick-line .ensures) (s .live-set .ensures) (t .ensures)
+    tick-shown _ _ _ _ (t .result) _ (c .tick-line .ensures) (s .live-slots .ensures) (t .ensures)
 
 pub show-tick-spec : {M : Type 1} → statement M
-show-tick-spec = tie.close (tie.spec tick-requires live-set-requires tick-line-requires returns)
+show-tick-spec = tie.close (tie.spec tick-requires live-slots-requires tick-line-requires returns)

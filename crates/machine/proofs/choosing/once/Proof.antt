@@ -1,18 +1,24 @@
+-- The loop's invariant: of the first j each is there once.
 use mathlib.Core.Path.{_≡_, refl, sym, ap, _∙_}
 use mathlib.Core.Logic.{⊎-elim}
-use Prim.Native.Nat.{ℕ, _-_, _≤_, _<_}
+use mathlib.Core.List.{List}
+use Prim.Native.Nat.{ℕ, _-_, _%_, _≤_, _<_}
 use native.Mathlib.Omega.{arith}
-use lib.ListN.{length, getD, take}
+use lib.ListN.{length, getD}
 use borrow.Author.Needs.{needs}
 use borrow.Author.Tests.{not-true, not-false}
-use Rattle.graph.specs.Words.{isIn}
-use Rattle.machine.proofs.Ran.{listed-places}
-use Rattle.machine.proofs.Once.{Once, once-none, once-new, once-again}
+use Rattle.graph.specs.Words.{row, isIn}
+use Rattle.graph.proofs.Facts.{length-row, row-at}
+use Rattle.machine.proofs.Once.{Once, once-none, once-new, once-again, once-all}
 use Rattle.machine.proofs.choosing.once.Statement.{statement}
 use Rattle.machine.proofs.choosing.once.Tie as tie
 
+-- the numbers that the given choice lists
+abbrev numbers : ℕ → List ℕ → List ℕ
+numbers many given = row many (λ j. getD given j 0 % 1024)
+
 abbrev Inv-loop : tie.InvT-loop
-Inv-loop many given keys₀ count₀ j₀ keys count j = (j ≤ many) × Once given j keys count
+Inv-loop many given keys₀ count₀ j₀ keys count j = (j ≤ many) × Once (numbers many given) j keys count
 
 abbrev μ-loop : tie.MeasureT-loop
 μ-loop many given keys₀ count₀ j₀ keys count j = many - j
@@ -23,14 +29,17 @@ places-requires c κs = search needs
 loop-holds : tie.Need-loop-holds Inv-loop μ-loop
 loop-holds c = (search needs, once-none _ _ refl)
 
-array-read-holds : tie.Need-array-read-holds Inv-loop μ-loop
-array-read-holds c = search needs
+mul-k : tie.Need-mul-k Inv-loop μ-loop
+mul-k c = search needs
+
+array-read-k : tie.Need-array-read-k Inv-loop μ-loop
+array-read-k c = search needs
 
 holds-requires : tie.Need-holds-requires Inv-loop μ-loop
 holds-requires c κs = let o = c .before .before .loop .inv .1 in (omega (arith, o .room, c .before .before .before .before .places .ensures), o .size)
 
-array-read-keys : tie.Need-array-read-keys Inv-loop μ-loop
-array-read-keys c = search needs
+mul-keys : tie.Need-mul-keys Inv-loop μ-loop
+mul-keys c = let o = c .before .before .before .before .loop .inv .1 in omega (arith, o .room, c .before .before .before .before .before .before .places .ensures)
 
 array-write-keys : tie.Need-array-write-keys Inv-loop μ-loop
 array-write-keys c = let o = c .before .before .before .before .loop .inv .1 in omega (arith, o .room, c .before .before .before .before .before .before .places .ensures)
@@ -49,17 +58,19 @@ loop-again c =
     let l = c .before .before .before .before .loop in
     let n = c .before .before .before .before .before .before .places in
     let ks = c .before .before .before .before .before .before .before .args .chosen .keys in
-    let h : length ks ≡ 8 = search needs in
-    let b : l .j < length ks = omega (arith, n .ensures) in
+    let given : List ℕ = numbers (n .result) ks in
+    let x : ℕ = getD ks (l .j) 0 % 1024 in
+    let b : l .j < length given = omega (arith, length-row (n .result) (λ j. getD ks j 0 % 1024)) in
+    let e : x ≡ getD given (l .j) 0 = sym (row-at (n .result) (λ j. getD ks j 0 % 1024) (l .j) 0 (omega arith)) in
     let z = l .inv .1 .room in
     ⊎-elim
     (λ w. (
       omega arith,
-      rw (w .1, w .2) (once-new ks (l .j) (l .keys) (l .count) (l .inv .1) (getD ks (l .j) 0) b refl (omega (arith, n .ensures)) (sym (c .before .holds .ensures) ∙ not-true _ (w .0 .taken))),
+      rw (w .1, w .2) (once-new given (l .j) (l .keys) (l .count) (l .inv .1) x b e (omega (arith, n .ensures)) (omega arith) (sym (c .before .holds .ensures) ∙ not-true _ (w .0 .taken))),
     ))
     (λ w. (
       omega arith,
-      rw (w .1, w .2) (once-again ks (l .j) (l .keys) (l .count) (l .inv .1) (getD ks (l .j) 0) b refl (sym (c .before .holds .ensures) ∙ not-false _ (w .0 .left))),
+      rw (w .1, w .2) (once-again given (l .j) (l .keys) (l .count) (l .inv .1) x b e (sym (c .before .holds .ensures) ∙ not-false _ (w .0 .left))),
     ))
     (c .if1 .came)
 
@@ -68,11 +79,8 @@ returns c =
     let l = c .before .loop in
     let n = c .before .before .before .places in
     let a = c .before .before .before .before .args .chosen in
-    let h : length (a .keys) ≡ 8 = search needs in
-    let e : l .j ≡ n .result = omega arith in (
-      l .inv .1 .distinct,
-      λ k. l .inv .1 .same k ∙ ap (λ (i : ℕ). isIn k (take i (a .keys))) (e ∙ n .ensures) ∙ ap (isIn k) (listed-places (a .count) (a .keys) h),
-    )
+    let r = once-all (numbers (n .result) (a .keys)) (l .j) (l .keys) (l .count) (l .inv .1) (omega (arith, n .ensures, l .inv .0)) (omega (arith, length-row (n .result) (λ j. getD (a .keys) j 0 % 1024))) in
+    (r .0, λ k. r .1 k ∙ ap (λ (i : ℕ). isIn k (numbers i (a .keys))) (n .ensures))
 
 pub once-spec : {M : Type 1} → statement M
 once-spec =
@@ -82,9 +90,10 @@ once-spec =
     μ-loop
     places-requires
     loop-holds
-    array-read-holds
+    mul-k
+    array-read-k
     holds-requires
-    array-read-keys
+    mul-keys
     array-write-keys
     add-count
     add-j

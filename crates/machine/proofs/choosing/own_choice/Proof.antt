@@ -1,10 +1,16 @@
-use mathlib.Core.Path.{refl, sym, ap, _∙_}
-use Prim.Native.Nat.{ℕ}
+-- The sets are those of the available vertices, and the ticks left those of the live jobs: what `choose` asks for.
+use mathlib.Core.Path.{refl, sym, ap, ap₂, _∙_}
+use mathlib.Core.Bool.{Bool}
+use mathlib.Core.List.{List}
+use Prim.Native.Nat.{ℕ, _+_, _*_, _%_}
+use native.Mathlib.Omega.{arith}
 use lib.ListN.{getD}
-use Rattle.graph.specs.Words.{row}
-use Rattle.machine.specs.States.{live, ticksLeft}
-use Rattle.machine.proofs.Apart.{left-by}
-use Rattle.machine.proofs.Together.{spare-none}
+use Rattle.graph.specs.Words.{pick, setOf}
+use Rattle.graph.proofs.Facts.{row-at}
+use Rattle.table.specs.Memory.{task}
+use Rattle.slots.specs.Slots.{isReady}
+use Rattle.machine.specs.States.{ticksLeft, left}
+use Rattle.machine.proofs.Ready.{successors, ready-sets}
 use borrow.Author.Needs.{needs}
 use Rattle.machine.proofs.choosing.own_choice.Statement.{statement}
 use Rattle.machine.proofs.choosing.own_choice.Tie as tie
@@ -15,24 +21,25 @@ left-of-requires c κs = search needs
 sets-of-requires : tie.Need-sets-of-requires
 sets-of-requires c κs = search needs
 
-cast-choose : tie.Need-cast-choose
-cast-choose c = search needs
-
 choose-requires : tie.Need-choose-requires
 choose-requires c κs =
-    let s = c .before .before .before .before in
-    let a = s .args in
-    (s .pre .0, s .pre .1, spare-none (a .t) (a .begun) (a .remaining .now) _ (c .before .before .sets-of .ensures) (s .pre .2))
+    let s = c .before .before .before in
+    let a = s .args in (
+      s .pre,
+      λ k b e. ap (λ (l : List ℕ). getD l k 0) (c .before .sets-of .ensures) ∙ row-at 64 _ k 0 b
+          ∙ ap (λ (x : Bool). pick x (setOf 16 (isReady (task (a .t) (k % 16) .succ) (task (a .t) (k % 16) .v) (a .remaining .now) k)) 0) e,
+    )
 
 returns : tie.Need-returns
-unfolding live
+unfolding left
 returns c = λ st k r l d.
-    let a = c .before .before .before .before .before .args in
-    c .choose .ensures .0 (a .t) st refl (c .before .before .before .sets-of .ensures st r l)
-    (c .before .before .before .before .left-of .ensures
-    ∙ ap (λ (z : ℕ). row 16 (λ i. ticksLeft (getD (a .deadlines .now) i 0) z)) (sym k)
-    ∙ left-by st (a .deadlines .now) d)
+    let s = c .before .before .before .before in
+    let a = s .args in
+    c .choose .ensures .0 (a .t) st refl (c .before .before .sets-of .ensures ∙ ready-sets (a .t) (successors (a .t) _ (s .good .0)) st (a .begun) _ r l)
+    (λ i p b h e.
+    ap (λ (x : List ℕ). getD x (16 * p + i) 0) (c .before .before .before .left-of .ensures) ∙ row-at 64 _ (16 * p + i) 0 (omega arith)
+    ∙ ap (λ (x : Bool). pick x (ticksLeft (getD (a .deadlines .now) (16 * p + i) 0) (a .clock)) 0) (l i p b h ∙ e)
+    ∙ ap₂ ticksLeft (d i p b h e) (sym k))
 
 pub own-choice-spec : {M : Type 1} → statement M
-own-choice-spec =
-    tie.close (tie.spec left-of-requires sets-of-requires cast-choose choose-requires returns)
+own-choice-spec = tie.close (tie.spec left-of-requires sets-of-requires choose-requires returns)

@@ -1,37 +1,33 @@
-use Rattle.graph.proofs.Facts.{clash}
-use mathlib.Core.Path.{_≡_, refl, ap, _∙_}
-use mathlib.Core.Bool.{true}
-use mathlib.Core.Logic.{⊎-elim}
-use Prim.Native.Nat.{ℕ, _-_, _≤_, _<_}
-use native.Mathlib.Decide.{ℕ-discrete}
-use lib.ListN.{length, getD}
-use borrow.Author.Tests.{eq-eqb, ne-eqb}
-use Rattle.graph.specs.Words.{bit}
-use Rattle.table.specs.Memory.{noTask}
-use Rattle.machine.proofs.Filling.{same-throughout, Filled, filled-none, filled-set, filled-kept, filled-all}
-use Rattle.machine.proofs.Gathered.{readyIn, ready-none, ready-one, gathered-none, gathered-all}
+-- A loop over the slots of the set: at those it has passed stand their ready vertices.
+use mathlib.Core.Path.{refl}
+use mathlib.Core.List.{List}
+use Prim.Native.Nat.{ℕ, _%_}
+use lib.ListN.{getD}
+use Rattle.graph.specs.Words.{setOf}
+use Rattle.table.specs.declared.Task.{Task}
+use Rattle.table.specs.Memory.{noTask, task}
+use Rattle.slots.specs.Slots.{isReady}
+use Rattle.machine.proofs.Sweeping.{falls, Swept, swept-none, swept-at, swept-zeros}
 use borrow.Author.Needs.{needs}
 use native.Mathlib.Omega.{arith}
 use Rattle.machine.proofs.choosing.sets_of.Statement.{statement}
 use Rattle.machine.proofs.choosing.sets_of.Tie as tie
 
+-- the ready vertices of slot s
+abbrev readyIn : List Task → List ℕ → ℕ → ℕ
+readyIn tasks rest s = setOf 16 (isReady (getD tasks (s % 16) noTask .succ) (getD tasks (s % 16) noTask .v) rest s)
+
 abbrev Inv-loop : tie.InvT-loop
-Inv-loop live remaining sets₀ tasks i₀ sets i = (i ≤ 16) × Filled 16 0 (readyIn tasks live remaining) sets₀ i sets × ((k : ℕ) → k < i → bit live k ≡ true → length (getD tasks k noTask .succ) ≡ 16)
+Inv-loop live remaining tasks sets₀ rest₀ sets rest = Swept 0 (readyIn tasks remaining) sets₀ live rest sets
 
 abbrev μ-loop : tie.MeasureT-loop
-μ-loop live remaining sets₀ tasks i₀ sets i = 16 - i
-
-returns : tie.Need-returns Inv-loop μ-loop
-returns c = λ st q h. gathered-none _ st _ h (c .if1 .taken)
+μ-loop live remaining tasks sets₀ rest₀ sets rest = rest
 
 loop-holds : tie.Need-loop-holds Inv-loop μ-loop
-loop-holds c = (search needs, filled-none 16 0 _ _ refl, λ k b. absurd (omega arith))
+loop-holds c = swept-none 0 (readyIn (c .before .args .t .tasks) (c .before .args .remaining .now)) _ (c .before .args .live) (search needs) refl
 
-cast-if2 : tie.Need-cast-if2 Inv-loop μ-loop
-cast-if2 c = search needs
-
-shr-if2 : tie.Need-shr-if2 Inv-loop μ-loop
-shr-if2 c = search needs
+first-of-requires : tie.Need-first-of-requires Inv-loop μ-loop
+first-of-requires c κs = omega arith
 
 mul-x : tie.Need-mul-x Inv-loop μ-loop
 mul-x c = search needs
@@ -51,44 +47,22 @@ mul-sets c = search needs
 array-write-sets : tie.Need-array-write-sets Inv-loop μ-loop
 array-write-sets c = search needs
 
-add-i : tie.Need-add-i Inv-loop μ-loop
-add-i c = search needs
+sub-rest : tie.Need-sub-rest Inv-loop μ-loop
+sub-rest c = omega arith
 
 loop-less : tie.Need-loop-less Inv-loop μ-loop
-loop-less c = search needs
+loop-less c = falls _ (omega arith) (c .before .before .before .before .before .before .loop .inv .narrow)
 
 loop-again : tie.Need-loop-again Inv-loop μ-loop
-unfolding bit noTask
+unfolding noTask
 loop-again c =
-    let l = c .before .before .loop in
-    let a = c .before .before .before .before .before .args in
-    let f = readyIn (a .t .tasks) (a .live) (a .remaining .now) in
-    ⊎-elim
-    (λ w. (
-      omega arith,
-      rw (w .5) (filled-set 16 0 f _ (l .i) (l .sets) (l .inv .1) (w .4 .result) (omega arith)
-          (ready-one (a .t .tasks) (a .live) (a .remaining .now) (l .i) (w .4 .result) (eq-eqb _ _ (w .0 .taken)) (w .4 .ensures .0))),
-      λ k h e. elim (ℕ-discrete k (l .i)) [
-        | yes q ↦ ap (λ (j : ℕ). length (getD (a .t .tasks) j noTask .succ)) q ∙ w .4 .ensures .1
-        | no q ↦ l .inv .2 k (omega arith) e
-      ],
-    ))
-    (λ w. (
-      omega arith,
-      rw (w .1) (filled-kept 16 0 f _ (l .i) (l .sets) (l .inv .1)
-          (same-throughout 16 (l .i) 0 ∙ ready-none (a .t .tasks) (a .live) (a .remaining .now) (l .i) (ne-eqb _ _ (w .0 .left)))),
-      λ k h e. elim (ℕ-discrete k (l .i)) [
-        | yes q ↦ absurd (clash e (ap (bit (a .live)) q ∙ ne-eqb _ _ (w .0 .left)))
-        | no q ↦ l .inv .2 k (omega arith) e
-      ],
-    ))
-    (c .if2 .came)
+    let l = c .before .before .before .before .before .before .loop in
+    let a = c .before .before .before .before .before .before .before .before .args in
+    swept-at 0 (readyIn (a .t .tasks) (a .remaining .now)) _ _ (l .rest) (l .sets) (l .inv) (omega arith) (c .before .before .before .before .first-of .result) (c .before .before .before .before .first-of .ensures .0) (c .ready .result) (c .ready .ensures)
 
-returns-2 : tie.Need-returns-2 Inv-loop μ-loop
-returns-2 c = λ st q h.
-    let l = c .before .loop in
-    let e : l .i ≡ 16 = omega arith in
-    gathered-all _ st _ h _ _ q (λ k b. l .inv .2 k (omega arith)) (filled-all 16 0 _ _ _ _ (l .inv .1) (omega arith))
+returns : tie.Need-returns Inv-loop μ-loop
+unfolding task
+returns c = let a = c .before .before .before .args in swept-zeros (readyIn (a .t .tasks) (a .remaining .now)) _ (c .before .loop .rest) (c .before .loop .sets) (c .before .loop .inv) (omega arith)
 
 pub sets-of-spec : {M : Type 1} → statement M
 sets-of-spec =
@@ -96,17 +70,15 @@ sets-of-spec =
     (tie.spec
     Inv-loop
     μ-loop
-    returns
     loop-holds
-    cast-if2
-    shr-if2
+    first-of-requires
     mul-x
     array-copy-out-x
     cast-v
     ready-requires
     mul-sets
     array-write-sets
-    add-i
+    sub-rest
     loop-less
     loop-again
-    returns-2)
+    returns)

@@ -1,3 +1,4 @@
+-- All but bit u.
 use Rattle.graph.proofs.Bits.{one-less}
 use borrow.Author.Needs.{needs}
 use Rattle.machine.proofs.choosing.without.Statement.{statement}

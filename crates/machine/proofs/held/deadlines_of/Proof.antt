@@ -1,32 +1,43 @@
-use mathlib.Core.Path.{refl}
+use mathlib.Core.Path.{refl, ap, _∙_, subst⁻¹}
 use mathlib.Core.List.{List}
-use Prim.Native.Nat.{ℕ, _-_, _≤_}
-use lib.ListN.{getD}
+use Prim.Native.Nat.{ℕ}
+use lib.ListN.{replicate}
 use Rattle.machine.specs.declared.TaskState.{TaskState}
-use Rattle.machine.specs.States.{idle, deadlineOf}
-use Rattle.machine.proofs.Filling.{Filled, filled-none, filled-set, filled-all}
+use Rattle.machine.specs.States.{noJob, deadlineOf}
+use Rattle.machine.specs.Rows.{noTask, jobIn}
+use Rattle.machine.proofs.Sweeping.{falls, Swept, swept-none, swept-at, swept-all, swept-zeros}
 use borrow.Author.Needs.{needs}
 use native.Mathlib.Omega.{arith}
 use Rattle.machine.proofs.held.deadlines_of.Statement.{statement}
 use Rattle.machine.proofs.held.deadlines_of.Tie as tie
 
-abbrev numberIn : List TaskState → ℕ → ℕ
-numberIn states k = deadlineOf (getD states k idle .activity)
+-- the deadline at slot s
+abbrev deadlineIn : List TaskState → ℕ → ℕ
+deadlineIn states s = deadlineOf (jobIn states s)
 
 abbrev Inv-loop : tie.InvT-loop
-Inv-loop states deadlines₀ i₀ deadlines i = (i ≤ 16) × Filled 16 0 (numberIn states) deadlines₀ i deadlines
+Inv-loop set states deadlines₀ rest₀ deadlines rest = Swept 0 (deadlineIn states) deadlines₀ set rest deadlines
 
 abbrev μ-loop : tie.MeasureT-loop
-μ-loop states deadlines₀ i₀ deadlines i = 16 - i
+μ-loop set states deadlines₀ rest₀ deadlines rest = rest
 
 loop-holds : tie.Need-loop-holds Inv-loop μ-loop
-loop-holds c = (search needs, filled-none 16 0 _ _ refl)
+loop-holds c = swept-none 0 (deadlineIn (c .args .t1)) _ (c .args .set) (search needs) refl
 
-mul-s : tie.Need-mul-s Inv-loop μ-loop
-mul-s c = search needs
+first-of-requires : tie.Need-first-of-requires Inv-loop μ-loop
+first-of-requires c κs = omega arith
 
-array-copy-out-s : tie.Need-array-copy-out-s Inv-loop μ-loop
-array-copy-out-s c = search needs
+mul-t : tie.Need-mul-t Inv-loop μ-loop
+mul-t c = search needs
+
+array-copy-out-t : tie.Need-array-copy-out-t Inv-loop μ-loop
+array-copy-out-t c = search needs
+
+mul-place : tie.Need-mul-place Inv-loop μ-loop
+mul-place c = search needs
+
+element-copy-out-place : tie.Need-element-copy-out-place Inv-loop μ-loop
+element-copy-out-place c = search needs
 
 deadline-of-requires : tie.Need-deadline-of-requires Inv-loop μ-loop
 deadline-of-requires c κs = search needs
@@ -37,18 +48,20 @@ mul-deadlines c = search needs
 array-write-deadlines : tie.Need-array-write-deadlines Inv-loop μ-loop
 array-write-deadlines c = search needs
 
-add-i : tie.Need-add-i Inv-loop μ-loop
-add-i c = search needs
+sub-rest : tie.Need-sub-rest Inv-loop μ-loop
+sub-rest c = omega arith
 
 loop-less : tie.Need-loop-less Inv-loop μ-loop
-loop-less c = search needs
+loop-less c = falls _ (omega arith) (c .before .before .before .before .before .loop .inv .narrow)
 
 loop-again : tie.Need-loop-again Inv-loop μ-loop
-unfolding idle
-loop-again c = let l = c .before .before .before .loop in (omega arith, filled-set 16 0 (numberIn (c .before .before .before .before .args .t1)) _ (l .i) (l .deadlines) (l .inv .1) (c .deadline-of .result) (omega arith) (c .deadline-of .ensures))
+unfolding noTask noJob
+loop-again c =
+    let l = c .before .before .before .before .before .loop in
+    swept-at 0 (deadlineIn (c .before .before .before .before .before .before .args .t1)) _ _ (l .rest) (l .deadlines) (l .inv) (omega arith) (c .before .before .before .first-of .result) (c .before .before .before .first-of .ensures .0) (c .deadline-of .result) (c .deadline-of .ensures)
 
 returns : tie.Need-returns Inv-loop μ-loop
-returns c = filled-all 16 0 _ _ _ _ (c .before .loop .inv .1) (omega arith)
+returns c = swept-zeros (deadlineIn (c .before .before .args .t1)) _ (c .before .loop .rest) (c .before .loop .deadlines) (c .before .loop .inv) (omega arith)
 
 pub deadlines-of-spec : {M : Type 1} → statement M
 deadlines-of-spec =
@@ -57,12 +70,15 @@ deadlines-of-spec =
     Inv-loop
     μ-loop
     loop-holds
-    mul-s
-    array-copy-out-s
+    first-of-requires
+    mul-t
+    array-copy-out-t
+    mul-place
+    element-copy-out-place
     deadline-of-requires
     mul-deadlines
     array-write-deadlines
-    add-i
+    sub-rest
     loop-less
     loop-again
     returns)

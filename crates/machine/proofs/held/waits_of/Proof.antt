@@ -3,18 +3,18 @@ use mathlib.Core.List.{List}
 use Prim.Native.Nat.{ℕ, _-_, _≤_}
 use lib.ListN.{getD}
 use Rattle.machine.specs.declared.TaskState.{TaskState}
-use Rattle.machine.specs.States.{idle, waitOf}
+use Rattle.machine.specs.Rows.{noTask}
 use Rattle.machine.proofs.Filling.{Filled, filled-none, filled-set, filled-all}
 use borrow.Author.Needs.{needs}
 use native.Mathlib.Omega.{arith}
 use Rattle.machine.proofs.held.waits_of.Statement.{statement}
 use Rattle.machine.proofs.held.waits_of.Tie as tie
 
-abbrev numberIn : List TaskState → ℕ → ℕ
-numberIn states k = waitOf (getD states k idle .activity)
+abbrev waitIn : List TaskState → ℕ → ℕ
+waitIn states k = getD states k noTask .wait
 
 abbrev Inv-loop : tie.InvT-loop
-Inv-loop states waits₀ i₀ waits i = (i ≤ 16) × Filled 16 0 (numberIn states) waits₀ i waits
+Inv-loop states waits₀ i₀ waits i = (i ≤ 16) × Filled 16 0 (waitIn states) waits₀ i waits
 
 abbrev μ-loop : tie.MeasureT-loop
 μ-loop states waits₀ i₀ waits i = 16 - i
@@ -22,14 +22,11 @@ abbrev μ-loop : tie.MeasureT-loop
 loop-holds : tie.Need-loop-holds Inv-loop μ-loop
 loop-holds c = (search needs, filled-none 16 0 _ _ refl)
 
-mul-s : tie.Need-mul-s Inv-loop μ-loop
-mul-s c = search needs
+mul-t : tie.Need-mul-t Inv-loop μ-loop
+mul-t c = search needs
 
-array-copy-out-s : tie.Need-array-copy-out-s Inv-loop μ-loop
-array-copy-out-s c = search needs
-
-wait-of-requires : tie.Need-wait-of-requires Inv-loop μ-loop
-wait-of-requires c κs = search needs
+array-copy-out-t : tie.Need-array-copy-out-t Inv-loop μ-loop
+array-copy-out-t c = search needs
 
 mul-waits : tie.Need-mul-waits Inv-loop μ-loop
 mul-waits c = search needs
@@ -44,8 +41,8 @@ loop-less : tie.Need-loop-less Inv-loop μ-loop
 loop-less c = search needs
 
 loop-again : tie.Need-loop-again Inv-loop μ-loop
-unfolding idle
-loop-again c = let l = c .before .before .before .loop in (omega arith, filled-set 16 0 (numberIn (c .before .before .before .before .args .t1)) _ (l .i) (l .waits) (l .inv .1) (c .wait-of .result) (omega arith) (c .wait-of .ensures))
+unfolding noTask
+loop-again c = let l = c .before .before .loop in (omega arith, filled-set 16 0 (waitIn (c .before .before .before .args .t1)) _ (l .i) (l .waits) (l .inv .1) _ (omega arith) refl)
 
 returns : tie.Need-returns Inv-loop μ-loop
 returns c = filled-all 16 0 _ _ _ _ (c .before .loop .inv .1) (omega arith)
@@ -57,9 +54,8 @@ waits-of-spec =
     Inv-loop
     μ-loop
     loop-holds
-    mul-s
-    array-copy-out-s
-    wait-of-requires
+    mul-t
+    array-copy-out-t
     mul-waits
     array-write-waits
     add-i

@@ -1,3 +1,4 @@
+-- The loop's invariant: none that was passed is early. So the first that is early is the lowest, and past the sixteenth no number is named.
 use Rattle.graph.proofs.Bits.{bit-past}
 use native.Mathlib.Decide.{decLt}
 use mathlib.Core.Path.{sym, ap, _∙_}

@@ -1,3 +1,4 @@
+-- A task is early if it is named and has a wait: the two tests, one after the other.
 use mathlib.Core.Path.{refl}
 use borrow.Author.Tests.{eq-eqb, ne-eqb}
 use Rattle.graph.specs.Words.{bit}

@@ -1,55 +1,44 @@
-use mathlib.Core.Path.{sym, subst, _∙_}
-use mathlib.Core.Logic.{⊎-elim}
+use mathlib.Core.Path.{sym, subst}
 use mathlib.Core.List.{List}
-use Prim.Native.Nat.{ℕ, _+_, _-_, _≤_}
-use borrow.Author.Tests.{eq-eqb, ne-eqb}
-use Rattle.graph.specs.Words.{bit}
-use Rattle.machine.proofs.Putting.{PutNamed, named-none, named-one, named-other, named-all, none-named}
+use Prim.Native.Nat.{ℕ, _-_}
+use lib.Bits.{bitAnd}
+use Rattle.machine.proofs.Sweeping.{falls}
+use Rattle.machine.proofs.Putting.{PutAt, at-none, at-one, at-all}
 use borrow.Author.Needs.{needs}
 use native.Mathlib.Omega.{arith}
 use Rattle.machine.proofs.lent.put_costs.Statement.{statement}
 use Rattle.machine.proofs.lent.put_costs.Tie as tie
 
 abbrev Inv-loop : tie.InvT-loop
-Inv-loop costs named remaining₀ i₀ remaining i = (i ≤ 16) × PutNamed costs remaining₀ named i remaining
+Inv-loop costs fresh remaining₀ rest₀ remaining rest = PutAt costs remaining₀ fresh rest remaining
 
 abbrev μ-loop : tie.MeasureT-loop
-μ-loop costs named remaining₀ i₀ remaining i = 16 - i
-
-returns : tie.Need-returns Inv-loop μ-loop
-returns c = let a = c .before .args in none-named (a .costs .now) (a .remaining .now) (a .named) (c .if1 .taken) (c .before .pre)
+μ-loop costs fresh remaining₀ rest₀ remaining rest = rest
 
 loop-holds : tie.Need-loop-holds Inv-loop μ-loop
-loop-holds c = (search needs, named-none _ _ _ (c .before .pre))
+loop-holds c = at-none (c .args .costs .now) _ (c .args .fresh) (search needs) (c .pre)
 
-cast-if2 : tie.Need-cast-if2 Inv-loop μ-loop
-cast-if2 c = search needs
+first-of-requires : tie.Need-first-of-requires Inv-loop μ-loop
+first-of-requires c κs = omega arith
 
-shr-if2 : tie.Need-shr-if2 Inv-loop μ-loop
-shr-if2 c = search needs
+put-slot-requires : tie.Need-put-slot-requires Inv-loop μ-loop
+put-slot-requires c κs = (omega (arith, c .before .first-of .ensures .1), c .before .before .before .loop .inv .size)
 
-put-task-requires : tie.Need-put-task-requires Inv-loop μ-loop
-put-task-requires c κs = (omega arith, c .before .before .before .loop .inv .1 .size)
-
-add-i : tie.Need-add-i Inv-loop μ-loop
-add-i c = search needs
+sub-rest : tie.Need-sub-rest Inv-loop μ-loop
+sub-rest c = omega arith
 
 loop-less : tie.Need-loop-less Inv-loop μ-loop
-loop-less c = search needs
+loop-less c = falls _ (omega arith) (c .before .before .before .before .loop .inv .narrow)
 
 loop-again : tie.Need-loop-again Inv-loop μ-loop
-unfolding bit
 loop-again c =
-    let l = c .before .before .loop in
-    let a = c .before .before .before .before .args in
-    let n = c .before .before .before .before .pre in
-    ⊎-elim
-    (λ w. (omega arith, subst (λ (z : List ℕ). PutNamed (a .costs .now) (a .remaining .now) (a .named) (l .i + 1) z) (sym (w .3 ∙ w .2 .ensures)) (named-one (a .costs .now) (a .remaining .now) (a .named) (l .i) (l .remaining) (l .inv .1) (eq-eqb _ _ (w .0 .taken)) n)))
-    (λ w. (omega arith, rw (w .1) (named-other (a .costs .now) (a .remaining .now) (a .named) (l .i) (l .remaining) (l .inv .1) (ne-eqb _ _ (w .0 .left)))))
-    (c .if2 .came)
+    let l = c .before .before .before .before .loop in
+    let a = c .before .before .before .before .before .args in
+    subst (λ (z : List ℕ). PutAt (a .costs .now) (a .remaining .now) (a .fresh) (bitAnd (l .rest) (l .rest - 1)) z) (sym (c .put-slot .ensures))
+    (at-one (a .costs .now) (a .remaining .now) (a .fresh) (l .rest) (l .remaining) (l .inv) (omega arith) (c .before .before .first-of .result) (c .before .before .first-of .ensures .0))
 
-returns-2 : tie.Need-returns-2 Inv-loop μ-loop
-returns-2 c = named-all _ _ _ (c .before .loop .i) (c .before .loop .remaining) (c .before .loop .inv .1) (omega arith)
+returns : tie.Need-returns Inv-loop μ-loop
+returns c = at-all _ _ _ (c .before .loop .rest) (c .before .loop .remaining) (c .before .loop .inv) (omega arith)
 
 pub put-costs-spec : {M : Type 1} → statement M
 put-costs-spec =
@@ -57,12 +46,10 @@ put-costs-spec =
     (tie.spec
     Inv-loop
     μ-loop
-    returns
     loop-holds
-    cast-if2
-    shr-if2
-    put-task-requires
-    add-i
+    first-of-requires
+    put-slot-requires
+    sub-rest
     loop-less
     loop-again
-    returns-2)
+    returns)

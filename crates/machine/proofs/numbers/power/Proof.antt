@@ -6,14 +6,11 @@ use borrow.Author.Needs.{needs}
 use Rattle.machine.proofs.numbers.power.Statement.{statement}
 use Rattle.machine.proofs.numbers.power.Tie as tie
 
-cast-result : tie.Need-cast-result
-cast-result c = search needs
-
 shl-result : tie.Need-shl-result
 shl-result c = search needs
 
 returns : tie.Need-returns
-returns c = ap (λ (n : ℕ). n % 65536) (one-mul (2 ^ c .args .i)) ∙ mod-eq-of-lt (pow-lt (c .pre))
+returns c = ap (λ (n : ℕ). n % 18446744073709551616) (one-mul (2 ^ c .args .s)) ∙ mod-eq-of-lt (pow-lt (c .pre))
 
 pub power-spec : {M : Type 1} → statement M
-power-spec = tie.close (tie.spec cast-result shl-result returns)
+power-spec = tie.close (tie.spec shl-result returns)

@@ -1,6 +1,7 @@
+-- Its parts are those of the definition, by what `reply` and `run_list` give.
 use mathlib.Core.Path.{ap₂}
 use mathlib.Core.List.{List}
-use Rattle.machine.specs.declared.Pair.{Pair}
+use Rattle.machine.specs.declared.Triple.{Triple}
 use Rattle.machine.specs.declared.Reply.{Reply}
 use borrow.Author.Needs.{needs}
 use Rattle.machine.proofs.ticking.answer.Statement.{statement}
@@ -15,7 +16,7 @@ run-list-requires c κs = search needs
 returns : tie.Need-returns
 returns c =
     let a = c .before .before .args in
-    ap₂ (λ (r : Reply) (l : List Pair). record { reply = r; ran = l; finished = a .done }) (c .before .reply .ensures) (c .run-list .ensures)
+    ap₂ (λ (r : Reply) (l : List Triple). record { reply = r; ran = l; finished = a .done }) (c .before .reply .ensures) (c .run-list .ensures)
 
 pub answer-spec : {M : Type 1} → statement M
 answer-spec = tie.close (tie.spec reply-requires run-list-requires returns)

@@ -1,3 +1,4 @@
+-- The loop's invariant: none that was passed is beyond. So the first that is beyond is the lowest; of the empty set there is none.
 use mathlib.Core.Path.{sym, ap, _∙_}
 use mathlib.Core.Bool.{Bool, _&&_}
 use Prim.Native.Nat.{ℕ, _-_, _≤_}

@@ -1,3 +1,4 @@
+-- A number is beyond if it is named and no task: the two tests, one after the other.
 use mathlib.Core.Path.{refl}
 use borrow.Author.Tests.{eq-eqb, ne-eqb}
 use borrow.Author.Needs.{needs}

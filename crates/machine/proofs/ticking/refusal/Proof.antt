@@ -1,10 +1,11 @@
+-- The tests one after the other, each by what the function that makes it says: the first that fails gives the reply (proofs/Telling.antt).
 use mathlib.Core.Path.{ap, _∙_}
 use mathlib.Core.Bool.{Bool}
 use borrow.Author.Tests.{not-true, not-false}
 use native.Mathlib.Omega.{arith}
-use Rattle.machine.specs.Choosing.{refusalOf}
-use Rattle.machine.proofs.Searching.{found, found-none}
-use Rattle.machine.proofs.Apart.{no-30, no-32, no-31, no-33, no-none}
+use Rattle.machine.specs.Rows.{refusalOf}
+use Rattle.machine.proofs.Lowest.{found, found-none}
+use Rattle.machine.proofs.Telling.{no-30, no-32, no-31, no-33, no-none}
 use borrow.Author.Needs.{needs}
 use Rattle.machine.proofs.ticking.refusal.Statement.{statement}
 use Rattle.machine.proofs.ticking.refusal.Tie as tie

@@ -1,3 +1,4 @@
+-- An unused place is `nobody`, by its definition.
 use mathlib.Core.Path.{refl}
 use Rattle.machine.specs.Ticking.{nobody}
 use Rattle.machine.proofs.ticking.unused.Statement.{statement}

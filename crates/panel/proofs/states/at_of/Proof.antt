@@ -1,3 +1,4 @@
+-- `at_of` meets its contract, by the case of the phase.
 use mathlib.Core.Path.{sym, ap}
 use borrow.Author.Needs.{needs}
 use Rattle.panel.specs.States.{atOf}

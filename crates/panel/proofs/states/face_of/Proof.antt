@@ -1,6 +1,7 @@
+-- `face_of` meets its contract: each field as its function gives it, and zeros for padding.
 use mathlib.Core.Path.{refl}
-use Rattle.panel.specs.States.{faceOf}
 use borrow.Author.Needs.{needs}
+use Rattle.panel.specs.States.{faceOf}
 use Rattle.panel.proofs.states.face_of.Statement.{statement}
 use Rattle.panel.proofs.states.face_of.Tie as tie
 

@@ -1,3 +1,4 @@
+-- `phase_of` meets its contract: one case for a running state, one for a stopped one.
 use mathlib.Core.Path.{refl}
 use borrow.Author.Tests.{eq-eqb, ne-eqb}
 use Rattle.panel.specs.States.{phaseOf}

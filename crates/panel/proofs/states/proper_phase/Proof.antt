@@ -1,3 +1,4 @@
+-- `proper_phase` meets its contract: one case for a running state, one for any other byte.
 use mathlib.Core.Path.{refl}
 use borrow.Author.Tests.{eq-eqb, ne-eqb}
 use Rattle.panel.specs.States.{properPhase}

@@ -1,13 +1,13 @@
+-- What is handed over has rows of their lengths, so a face state that is a state crosses back as it came.
 use mathlib.Core.Path.{_≡_, refl}
 use mathlib.Core.List.{List}
-use lib.ListN.{length}
+use borrow.Author.Needs.{needs}
 use Rattle.machine.specs.declared.Phase.{Phase}
 use Rattle.machine.specs.declared.TaskState.{TaskState}
-use Rattle.machine.proofs.Filling.{length-mapped}
 use Rattle.panel.specs.declared.FaceState.{FaceState}
 use Rattle.panel.specs.States.{phaseOf, stateOf}
 use Rattle.panel.proofs.Crossing.{back-and-there}
-use borrow.Author.Needs.{needs}
+use Rattle.panel.proofs.Owning.{sized}
 use Rattle.panel.proofs.states.state_of.Statement.{statement}
 use Rattle.panel.proofs.states.state_of.Tie as tie
 
@@ -24,9 +24,9 @@ made s p ts e q = rw (e, q) refl
 
 returns : tie.Need-returns
 returns c =
-    let s = c .before .before .before .before .args .s in
-    let n : length (s .tasks) ≡ 16 = search (needs, length-mapped) in
-    (made _ _ _ (c .before .phase-of .ensures) (c .tasks-of .ensures), back-and-there s n)
+    let start = c .before .before .before .before in
+    let s = start .args .s in
+    (made _ _ _ (c .before .phase-of .ensures) (c .tasks-of .ensures), back-and-there s (sized s _ (start .good .0)))
 
 pub state-of-spec : {M : Type 1} → statement M
 state-of-spec = tie.close (tie.spec phase-of-requires tasks-of-requires returns)

@@ -1,3 +1,4 @@
+-- `opened_face` meets its contract: the reply's numbers as they are, and the state as it crosses.
 use mathlib.Core.Path.{refl}
 use Rattle.panel.specs.Answers.{openedFace}
 use borrow.Author.Needs.{needs}

@@ -1,3 +1,4 @@
+-- `refused_face` meets its contract: eight unused places are a row of eight.
 use mathlib.Core.Path.{refl}
 use Rattle.graph.specs.Words.{rowFrom, row}
 use Rattle.machine.specs.Ticking.{nobody}

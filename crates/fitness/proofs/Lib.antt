@@ -1,7 +1,0 @@
--- A test of each number below n, and the vertices of which something remains as a set.
-pub mod Behind
-pub mod Together
--- The cases that the code tells apart, each with what the rules say of it.
-pub mod Cases
--- Each public contract allows one result.
-pub mod Unique

@@ -1,1 +1,0 @@
-// Statements and proofs only: the crate has no code.
