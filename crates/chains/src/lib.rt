@@ -1,4 +1,6 @@
 // The longest chain by name and the tails: document 02, M-102 and M-107. The definitions are in specs/Chains.antt and specs/Tails.antt.
+#![tactic(auto)]
+
 ghost use Rattle.std.specs.Prelude.{◌≡◌, true, ◌∷◌, ◌<◌, max};
 ghost use Rattle.graph.specs.Words.{bit, lowest, members};
 
@@ -9,7 +11,7 @@ pub use descending::tails_of;
 pub use listing::longest_chain;
 
 // A longest chain: its sum, and its vertices in path order; places from `count` on are 255.
-#[derive(Drop)]
+#[derive(Clone, Copy)]
 pub struct ChainFound {
     pub sum: u64,
     pub count: u8,

@@ -1,4 +1,6 @@
 // The writer's tests 3 to 7 and 10, on the table itself. What they mean is in table's specs/Writing.antt.
+#![tactic(auto)]
+
 mod checking;
 mod entries;
 
@@ -7,7 +9,7 @@ pub use entries::unused_zero;
 use table::Outcome;
 
 // The tests on a table, or on a part of it, in file order: the refusal, or the place after it.
-#[derive(Drop)]
+#[derive(Clone, Copy)]
 pub struct Checked {
     pub outcome: Outcome,
     pub next: usize,

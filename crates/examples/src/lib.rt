@@ -1,1 +1,2 @@
 // Statements and proofs only: the crate has no code.
+#![tactic(auto)]

@@ -1,4 +1,6 @@
 // The judge's answers. The definitions are in specs/, what they mean in proofs/.
+#![tactic(auto)]
+
 mod fields;
 mod lists;
 mod walk;
@@ -8,7 +10,7 @@ pub use walk::{judge, judge_piece, rule, unreadable};
 
 // The ruling on a journal: number 0, the number of rows, and whether the last one missed; or the refusal's number and row, for
 // reading's numbers the place and row 0.
-#[derive(Drop)]
+#[derive(Clone, Copy)]
 pub struct Ruling {
     pub number: u8,
     pub place: usize,
@@ -19,7 +21,7 @@ pub struct Ruling {
 
 // How far a journal is judged: `rows` rows are, the next one begins at place `next`, and the machine stands at `state`. A number
 // other than 0 says that this next row is refused with it.
-#[derive(Drop)]
+#[derive(Clone, Copy)]
 pub struct Progress {
     pub number: u8,
     pub next: usize,

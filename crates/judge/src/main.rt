@@ -1,5 +1,7 @@
 // The judge program: a table and a panel's journal on standard input, one line on standard output. Document 02, M-100. It holds the
 // table, and 8,192 bytes of the journal at a time.
+#![tactic(auto)]
+
 ghost use Rattle.std.specs.Prelude.{◌≡◌, ◌≤◌, length};
 
 use journal::{Progress, Ruling};
@@ -10,7 +12,7 @@ use table::{Outcome, Table};
 
 // How far the journal is judged, its rows counted from the first; how many bytes at the buffer's front are not judged yet; and
 // whether nothing more is to come.
-#[derive(Drop)]
+#[derive(Clone, Copy)]
 struct Stand {
     progress: Progress,
     held: usize,

@@ -1,4 +1,6 @@
 // The lines that show a table run, tick by tick, and the judge's line. The definitions are in specs/, what they mean in proofs/.
+#![tactic(auto)]
+
 mod opening;
 mod parts;
 mod ruling;
@@ -12,14 +14,14 @@ pub use showing::{clock_of, set_of, show_opening, show_tick};
 pub use ticking::tick_line;
 
 // A line's text, at the front of its bytes, and how long it is.
-#[derive(Drop)]
+#[derive(Clone, Copy)]
 pub struct Line {
     pub bytes: [u8; 2048],
     pub len: usize,
 }
 
 // A step: its line, the answer's number, and the state to go on from.
-#[derive(Drop)]
+#[derive(Clone, Copy)]
 pub struct Shown {
     pub line: Line,
     pub number: u8,

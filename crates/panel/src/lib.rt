@@ -1,5 +1,7 @@
 // The C face: functions that a program in C or Rust calls, and the answers that they hand back. include/milltundra.h declares them. No struct has
 // padding: what would be is a field of zeros, `pad`, so that equal answers are equal bytes.
+#![tactic(auto)]
+
 mod judging;
 mod states;
 mod tables;
@@ -13,7 +15,7 @@ pub use verdicts::{mt_quick, mt_report, mt_sharp, mt_sharp_report, mt_verdict};
 
 // A task of a table as it crosses.
 #[repr(C)]
-#[derive(Drop)]
+#[derive(Clone, Copy)]
 pub struct FaceTask {
     pub v: u8,
     pub pad: [u8; 3],
@@ -24,7 +26,7 @@ pub struct FaceTask {
 
 // A table as it crosses.
 #[repr(C)]
-#[derive(Drop)]
+#[derive(Clone, Copy)]
 pub struct FaceTable {
     pub m: u8,
     pub n: u8,
@@ -35,7 +37,7 @@ pub struct FaceTable {
 
 // Reading's number, place and table.
 #[repr(C)]
-#[derive(Drop)]
+#[derive(Clone, Copy)]
 pub struct ReadAnswer {
     pub place: u64,
     pub number: u8,
@@ -45,7 +47,7 @@ pub struct ReadAnswer {
 
 // Writing's number and place.
 #[repr(C)]
-#[derive(Drop)]
+#[derive(Clone, Copy)]
 pub struct WriteAnswer {
     pub place: u64,
     pub number: u8,
@@ -54,7 +56,7 @@ pub struct WriteAnswer {
 
 // The verdict's number, task, place and margin, and the task's chain: places from `count` on are 255.
 #[repr(C)]
-#[derive(Drop)]
+#[derive(Clone, Copy)]
 pub struct VerdictAnswer {
     pub place: u64,
     pub margin: i64,
@@ -67,7 +69,7 @@ pub struct VerdictAnswer {
 
 // A task's state: its wait, and for each of four age places the deadline of its job, 0 where there is none, and whether there is one, 0 or 1.
 #[repr(C)]
-#[derive(Drop)]
+#[derive(Clone, Copy)]
 pub struct FaceJobs {
     pub wait: u32,
     pub deadline: [u32; 4],
@@ -76,7 +78,7 @@ pub struct FaceJobs {
 
 // The machine's state: `stopped` is 0 for running or 1, and `at` is 0 while it runs.
 #[repr(C)]
-#[derive(Drop)]
+#[derive(Clone, Copy)]
 pub struct FaceState {
     pub work: [u64; 64],
     pub clock: u32,
@@ -89,7 +91,7 @@ pub struct FaceState {
 
 // Opening's number, task, place and state.
 #[repr(C)]
-#[derive(Drop)]
+#[derive(Clone, Copy)]
 pub struct OpenAnswer {
     pub place: u64,
     pub number: u8,
@@ -100,7 +102,7 @@ pub struct OpenAnswer {
 
 // A tick's number, task, place, set of tasks finished and vertices that ran.
 #[repr(C)]
-#[derive(Drop)]
+#[derive(Clone, Copy)]
 pub struct TickAnswer {
     pub place: u64,
     pub number: u8,
@@ -112,7 +114,7 @@ pub struct TickAnswer {
 
 // A tick's answer and the next state.
 #[repr(C)]
-#[derive(Drop)]
+#[derive(Clone, Copy)]
 pub struct TickedFace {
     pub answer: TickAnswer,
     pub state: FaceState,
@@ -120,7 +122,7 @@ pub struct TickedFace {
 
 // The judge's number, whether the last row missed (0 or 1), its place, its row and the number of rows.
 #[repr(C)]
-#[derive(Drop)]
+#[derive(Clone, Copy)]
 pub struct RulingAnswer {
     pub place: u64,
     pub row: u64,

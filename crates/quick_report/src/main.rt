@@ -1,4 +1,6 @@
 // The quick report: a table on standard input, `yes` or `no` on standard output. Document 02, M-105.
+#![tactic(auto)]
+
 ghost use Rattle.std.specs.Prelude.{◌≡◌, length};
 
 use libc::{STDIN_FILENO, STDOUT_FILENO};

@@ -1,4 +1,6 @@
 // The report program: a table on standard input, its report on standard output. Document 01, "Examples by hand".
+#![tactic(auto)]
+
 ghost use Rattle.std.specs.Prelude.{◌≡◌, length};
 
 use libc::{STDIN_FILENO, STDOUT_FILENO};

@@ -1,4 +1,6 @@
 // The sharp report: a table on standard input, its report by the sharp verdict on standard output. Document 02, M-107.
+#![tactic(auto)]
+
 ghost use Rattle.std.specs.Prelude.{◌≡◌, length};
 
 use libc::{STDIN_FILENO, STDOUT_FILENO};

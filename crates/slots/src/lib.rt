@@ -1,5 +1,7 @@
 // What the code asks of one slot's numbers, clause by clause. The rules are in specs/Slots.antt. Slot 16 * p + i is age place p of task i, and
 // what remains of its vertex u lies at 16 times slot plus u.
+#![tactic(auto)]
+
 ghost use Rattle.std.specs.Prelude.{◌≡◌, ◌&&◌, ◌||◌, not, ℕ, ◌≤◌, ◌<◌, min, eqb};
 ghost use Rattle.graph.specs.Words.{bit, all, set_of};
 ghost use Rattle.slots.specs.Slots.{at, cost_at, nothing_left, work_left, something_left, is_ready, within_cost, job_fits, zero_place};

@@ -1,4 +1,6 @@
 // Text into a lent buffer: bytes, numbers in decimal, numbers with their sign. What falls outside the buffer is cut off.
+#![tactic(auto)]
+
 ghost use Rattle.std.specs.Prelude.{◌≡◌, [], ◌∷◌, ◌<◌, min, length, drop};
 ghost use Rattle.text.specs.Text.{decimal, signed};
 ghost use Rattle.text.specs.Laid.{laid};

@@ -1,10 +1,12 @@
 // Runs recorded cases through the judge. Input, a case: the length (two bytes, little-endian) and the bytes of a table's file, or
 // length 0 for the file of the case before; the length (two bytes) and the bytes of a journal. Output, a line a case: number, place,
 // row, rows, and 1 if the last row missed or 0. The second program wrote both the cases and what is expected.
+#![tactic(auto)]
+
 ghost use Rattle.std.specs.Prelude.{◌≡◌, ◌≤◌, ◌<◌};
 
 // Whether there was a case, and the length of the file that the next one may take again.
-#[derive(Drop)]
+#[derive(Clone, Copy)]
 struct After {
     more: bool,
     held: usize,

@@ -1,5 +1,7 @@
 // Runs recorded cases through the reader. Input, a case: its length (two bytes, little-endian) and that many bytes. Output, a
 // line a case: number, place, and a checksum of the table. The second program wrote both the cases and what is expected.
+#![tactic(auto)]
+
 ghost use Rattle.std.specs.Prelude.{◌≡◌, ◌≤◌, ◌<◌};
 
 use table::{Outcome, Table, Task};

@@ -3,12 +3,14 @@
 // the byte that stands there now. Output, two lines a case, of the verdict and of the sharp verdict: number, place, task, margin, how many
 // vertices the chain has and the checksum of its sixteen places, the report's length and its checksum.
 // The second program wrote both the cases and what is expected.
+#![tactic(auto)]
+
 ghost use Rattle.std.specs.Prelude.{◌≡◌, ◌≤◌, ◌<◌};
 
 use verdict::Verdict;
 
 // Whether there was a case, and the length of the file that the next one may take again.
-#[derive(Drop)]
+#[derive(Clone, Copy)]
 struct After {
     more: bool,
     held: usize,

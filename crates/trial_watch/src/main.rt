@@ -1,13 +1,15 @@
 // Runs recorded inputs of the watch program. Input, a run: its length (two bytes, little-endian) and that many bytes, which are an
 // input of the watch program. Output, a line a run: how many lines are shown of it, and a checksum of them. The second program wrote
 // both the runs and what is expected.
+#![tactic(auto)]
+
 ghost use Rattle.std.specs.Prelude.{◌≡◌, ◌≤◌, ◌<◌};
 
 use lines::Line;
 use machine::State;
 
 // How many lines were shown, and their checksum.
-#[derive(Drop)]
+#[derive(Clone, Copy)]
 struct Told {
     count: u64,
     sum: u64,

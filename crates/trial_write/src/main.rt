@@ -2,12 +2,14 @@
 // is the base, or length 0 for the base before; a count of changes (a byte), each a field's code (two bytes) and its value (four);
 // and the buffer's length (two bytes). Output, a line a case: number, place, and a checksum of the buffer, which holds A5 before.
 // The second program wrote both the cases and what is expected.
+#![tactic(auto)]
+
 ghost use Rattle.std.specs.Prelude.{◌≡◌, ◌≤◌, ◌<◌};
 
 use table::Table;
 
 // Whether there was a case, and the length of the base that the next one may take again.
-#[derive(Drop)]
+#[derive(Clone, Copy)]
 struct After {
     more: bool,
     held: usize,

@@ -1,5 +1,7 @@
 // The watch program: a table, a clock and release sets on standard input, a line for opening and one for each tick on standard
 // output. It holds the table and one line.
+#![tactic(auto)]
+
 ghost use Rattle.std.specs.Prelude.{◌≡◌, ◌≤◌, length};
 
 use libc::{STDIN_FILENO, STDOUT_FILENO};
@@ -7,7 +9,7 @@ use lines::Line;
 use machine::State;
 
 // The state to go on from, if there is more to come.
-#[derive(Drop)]
+#[derive(Clone, Copy)]
 struct Next {
     more: bool,
     state: State,
