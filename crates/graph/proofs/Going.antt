@@ -131,12 +131,12 @@ module _ (succ times : List ℕ) where
           (λ p. elim (ℕ_discrete x u) [ yes e ↦ inl (inr e) | no d ↦ inr (sym (other_in x u us d) ∙ p) ]) o
 
       first : (x : ℕ) → edge succ u x ≡ true → (Out x ⊎ (x ≡ u)) → ⊥
-      first x e o = ⊎_elim (λ p. later u x (first_in u us) e (inl p)) (λ p. later u x (first_in u us) e (inr (rw p (first_in u us)))) o
+      first x e o = ⊎_elim (λ p. later u x (first_in u us) e (inl p)) (λ p. later u x (first_in u us) e (inr (subst (λ (z : ℕ). is_in z (u ∷ us) ≡ true) (sym p) (first_in u us)))) o
 
       rest : (v x : ℕ) → is_in v us ≡ true → edge succ v x ≡ true → ((Out x ⊎ (x ≡ u)) ⊎ (is_in x us ≡ true)) → ⊥
       rest v x i e o =
           let k = tail_in v u us i in
-          ⊎_elim (λ p. ⊎_elim (λ q. later v x k e (inl q)) (λ q. later v x k e (inr (rw q (first_in u us)))) p)
+          ⊎_elim (λ p. ⊎_elim (λ q. later v x k e (inl q)) (λ q. later v x k e (inr (subst (λ (z : ℕ). is_in z (u ∷ us) ≡ true) (sym q) (first_in u us)))) p)
           (λ p. later v x k e (inr (tail_in x u us p))) o
 
 -- ---- once all are out

@@ -72,7 +72,7 @@ raised_at starts end (w ∷ ws) x h =
     elim (ℕ_discrete x w) [
       | yes e ↦
           let s : get_or (set starts w m) x 0 ≡ max (get_or starts x 0) end = rw e (get_or-set_same starts w m 0 (omega arith)) in
-          let i : is_in x (w ∷ ws) ≡ true = rw e (first_in w ws) in
+          let i : is_in x (w ∷ ws) ≡ true = subst (λ (z : ℕ). is_in z (w ∷ ws) ≡ true) (sym e) (first_in w ws) in
           r ∙ same (is_in x ws) (get_or (set starts w m) x 0) s ∙ sym (ap (λ (b : Bool). pick b (max (get_or starts x 0) end) (get_or starts x 0)) i)
       | no d ↦
           r ∙ ap (λ (s : ℕ). pick (is_in x ws) (max s end) s) (get_or-set_other starts w x m 0 d)

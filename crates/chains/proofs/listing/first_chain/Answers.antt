@@ -1,0 +1,91 @@
+use mathlib.Core.Path.{ap, ◌∙◌}
+use mathlib.Core.List.{List}
+use Prim.Native.Nat.{ℕ, ◌+◌, ◌-◌, ◌≤◌, ◌<◌}
+use native.Mathlib.Omega.{arith}
+use borrow.Author.Rules.{rules}
+use lib.ListN.{get_or, set}
+use Rattle.graph.specs.Words.{pick, bit, largest}
+use Rattle.chains.proofs.Placed.{Listing, largest_sum, listing_first, turn, listing_done, listing_next, listed_answer}
+use Rattle.chains.proofs.listing.first_chain.Lts as lts
+use Rattle.chains.proofs.listing.first_chain.Reads as reads
+use Rattle.chains.proofs.listing.first_with.Reads as first-with-reads
+use Rattle.chains.proofs.listing.largest_of.Reads as largest-of-reads
+use Rattle.chains.proofs.listing.sums_from.Reads as sums-from-reads
+use Rattle.chains.proofs.wide.Reads as wide-reads
+use Rattle.chains.proofs.listing.first_chain.Goals as goal
+
+-- a turn: the vertex that was found
+abbrev Turn : Type 0
+Turn =
+    lts.After-first-with
+    (sums-from-reads.Asked, sums-from-reads.Learnt, largest-of-reads.Asked, largest-of-reads.Learnt, first-with-reads.Asked, first-with-reads.Learnt, wide-reads.Asked, wide-reads.Learnt)
+    reads.Pre reads.Post invariant_loop decreases_loop
+
+at : (c : Turn) → (c.first-with.result < 16) × (c.before.loop.count < 16) × (get_or c.before.before.before.before.args.t2 c.first-with.result 0 ≤ c.before.loop.left)
+at c =
+    let s = c.before.before.before.before in
+    let l = c.before.loop in
+    let r = turn s.args.t1 s.args.t2 s.requires l.vertices l.count l.set l.left l.invariant c.first-with.result
+    c.before.before.before.sums-from.result c.before.before.before.sums-from.ensures c.first-with.ensures in
+    (r.0, r.1, r.2)
+
+pub sums_from-sums-requires : goal.sums_from-sums-requires
+sums_from-sums-requires c = c.requires
+
+pub loop-left-init : goal.loop-left-init
+loop-left-init c =
+    let f = c.sums_from-sums in
+    listing_first c.args.succ c.args.times c.requires c.largest_of-sum.result
+    (largest_sum c.args.succ c.args.times c.requires c.largest_of-sum.result
+    (c.largest_of-sum.ensures ∙ ap (λ (l : List ℕ). largest 16 (λ w. pick (bit 65535 w) (get_or l w 0) 0)) f.ensures))
+
+pub overflow_cast-vertices : goal.overflow_cast-vertices
+overflow_cast-vertices c = omega (arith, (at c).0)
+
+pub bounds-vertices-count : goal.bounds-vertices-count
+bounds-vertices-count c = (at c).1
+
+pub overflow_add-count : goal.overflow_add-count
+overflow_add-count c = omega (arith, (at c).1)
+
+pub offset_bounds-times-u : goal.offset_bounds-times-u
+offset_bounds-times-u c = omega (arith, (at c).0)
+
+pub bounds-times-u : goal.bounds-times-u
+bounds-times-u c = (at c).0
+
+pub overflow_sub-left : goal.overflow_sub-left
+overflow_sub-left c = omega (arith, (at c).2, c.wide-left.ensures.0)
+
+pub overflow_cast-result : goal.overflow_cast-result
+overflow_cast-result c = omega (arith, (at c).1)
+
+pub returns-then-left-eq0 : goal.returns-then-left-eq0
+returns-then-left-eq0 c =
+    let l = c.loop-left in
+    let f = c.sums_from-sums in
+    let m = c.largest_of-sum in
+    let t = c.wide-left in
+    let d = listing_done c.args.succ c.args.times c.requires l.vertices l.count l.set l.left l.invariant c.first_with-u.result f.result f.ensures
+    c.first_with-u.ensures t.result t.ensures.0 (omega arith) in
+    listed_answer c.args.succ c.args.times c.requires m.result (l.count + 1) (set l.vertices l.count c.first_with-u.result)
+    (largest_sum c.args.succ c.args.times c.requires m.result
+    (m.ensures ∙ ap (λ (x : List ℕ). largest 16 (λ c. pick (bit 65535 c) (get_or x c 0) 0)) f.ensures))
+    d.0 d.1
+
+pub offset_bounds-succ-u : goal.offset_bounds-succ-u
+offset_bounds-succ-u c = omega (arith, (at c).0)
+
+pub bounds-succ-u : goal.bounds-succ-u
+bounds-succ-u c = (at c).0
+
+pub loop-left-smaller : goal.loop-left-smaller
+loop-left-smaller c = omega (arith, (at c).1)
+
+pub loop-left-preserved : goal.loop-left-preserved
+loop-left-preserved c =
+    let l = c.loop-left in
+    let f = c.sums_from-sums in
+    let t = c.wide-left in
+    listing_next c.args.succ c.args.times c.requires l.vertices l.count l.set l.left l.invariant c.first_with-u.result f.result f.ensures
+    c.first_with-u.ensures t.result t.ensures.0 (λ z. c.if-left-eq0.false (omega arith))

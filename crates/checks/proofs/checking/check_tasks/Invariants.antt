@@ -1,0 +1,15 @@
+use mathlib.Core.Path.{◌≡◌, ◌∙◌}
+use Prim.Native.Nat.{◌≤◌, ◌+◌, ◌-◌, ◌*◌}
+use native.Mathlib.Nat.{sub-zero}
+use native.Mathlib.Omega.{arith}
+use borrow.Author.Rules.{rules}
+use Rattle.checks.specs.Checking.{task_tested, tasks_tested}
+use Rattle.table.specs.Memory.{task, no_task}
+use Rattle.checks.proofs.TaskTests.{task_next, tasks_stop, tasks_go, tasks_end}
+use Rattle.checks.proofs.checking.check_tasks.Given as goal
+
+abbrev pub invariant-loop-i : goal.invariant-loop-i
+invariant-loop-i l = (l.i ≤ l.n) × (l.at ≤ 4 + 316 * l.i) × (tasks_tested l.table (l.n - l.i) l.i l.at ≡ tasks_tested l.table l.n 0 4)
+
+abbrev pub decreases-loop-i : goal.decreases-loop-i
+decreases-loop-i l = l.n - l.i

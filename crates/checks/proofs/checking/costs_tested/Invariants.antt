@@ -1,0 +1,14 @@
+use mathlib.Core.Path.{◌≡◌, ◌∙◌}
+use Prim.Native.Nat.{◌≤◌, ◌+◌, ◌-◌, ◌*◌}
+use native.Mathlib.Omega.{arith}
+use native.Mathlib.Nat.{sub-zero, add-zero}
+use borrow.Author.Rules.{rules}
+use Rattle.checks.specs.Checking.{costs_tested}
+use Rattle.checks.proofs.TestLaws.{costs_over, costs_more, costs_end}
+use Rattle.checks.proofs.checking.costs_tested.Given as goal
+
+abbrev pub invariant-loop-u : goal.invariant-loop-u
+invariant-loop-u l = (l.u ≤ l.v) × (l.p ≡ l.at + 4 * l.u) × (costs_tested l.costs (l.v - l.u) l.p (l.slot + l.u) ≡ costs_tested l.costs l.v l.at l.slot)
+
+abbrev pub decreases-loop-u : goal.decreases-loop-u
+decreases-loop-u l = l.v - l.u

@@ -1,0 +1,17 @@
+use mathlib.Core.Path.{◌≡◌, refl}
+use mathlib.Core.Bool.{true}
+use Prim.Native.Nat.{◌+◌, ◌-◌, ◌≤◌}
+use native.Mathlib.Omega.{arith}
+use lib.Dec.{ltb}
+use borrow.Author.Rules.{rules}
+use borrow.Author.Tests.{lt-ltb, le-ltb}
+use Rattle.graph.specs.Words.{all}
+use Rattle.slots.proofs.Behind.{all_more, all_off, all_done_lem}
+use Rattle.journal.specs.Rows.{row_end, row_triple, ascending}
+use Rattle.journal.proofs.fields.ascends.Given as goal
+
+abbrev pub invariant-loop-j : goal.invariant-loop-j
+invariant-loop-j l = (l.j ≤ l.count - 1) × (all l.j (λ k. ltb (row_triple l.bytes l.at k) (row_triple l.bytes l.at (k + 1))) ≡ true)
+
+abbrev pub decreases-loop-j : goal.decreases-loop-j
+decreases-loop-j l = l.count - l.j

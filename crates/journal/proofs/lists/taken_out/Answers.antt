@@ -1,0 +1,6 @@
+use Rattle.graph.proofs.Bits.{one_less}
+use borrow.Author.Rules.{rules}
+use Rattle.journal.proofs.lists.taken_out.Goals as goal
+
+pub returns : goal.returns
+returns c = λ k h. one_less c.args.set c.args.u k c.requires h

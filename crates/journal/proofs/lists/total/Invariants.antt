@@ -1,0 +1,15 @@
+use mathlib.Core.Path.{◌≡◌, refl, sym, ap, ap₂, ◌∙◌}
+use Prim.Native.Nat.{ℕ, ◌+◌, ◌*◌, ◌-◌, ◌≤◌}
+use native.Mathlib.Omega.{arith}
+use borrow.Author.Rules.{rules}
+use lib.ListN.{get_or}
+use lib.Count.{ones}
+use Rattle.graph.specs.Words.{sum}
+use Rattle.journal.proofs.Counted.{sum_next}
+use Rattle.journal.proofs.lists.total.Given as goal
+
+abbrev pub invariant-loop-k : goal.invariant-loop-k
+invariant-loop-k l = (l.k ≤ 64) × (l.n ≤ 16 * l.k) × (l.n ≡ sum l.k (λ j. ones (get_or l.sets j 0)))
+
+abbrev pub decreases-loop-k : goal.decreases-loop-k
+decreases-loop-k l = 64 - l.k

@@ -1,0 +1,34 @@
+use mathlib.Core.Path.{refl, sym, ◌∙◌}
+use Prim.Native.Nat.{◌≤◌}
+use lib.ListN.{length}
+use native.Mathlib.Omega.{arith}
+use borrow.Author.Rules.{rules}
+use Rattle.journal.specs.Rows.{row_set, row_end}
+use Rattle.journal.proofs.RowFaults.{offered_of}
+use Rattle.journal.proofs.walk.fault.Goals as goal
+
+-- what is known once the row's bytes and its release set were passed: it is whole
+whole : (c : tie.Else1) → row_end c.before.before.before.args.bytes.now c.before.before.before.args.at ≤ length c.before.before.before.args.bytes.now
+whole c = c.before.set-fault.ensures.whole c.if1.false
+
+pub set_fault-early-requires : goal.set_fault-early-requires
+set_fault-early-requires c = c.requires
+
+pub returns-then-early-ne0 : goal.returns-then-early-ne0
+returns-then-early-ne0 c = sym (c.set_fault-early.ensures.refused c.if-early-ne0.true)
+
+pub set_at-set-requires : goal.set_at-set-requires
+unfolding row_end
+set_at-set-requires c = let w = whole c in omega arith
+
+pub choice_fault-requires : goal.choice_fault-requires
+choice_fault-requires c = whole c
+
+pub returns : goal.returns
+returns c =
+    let a = c.args in
+    let s = c.set_at-set in
+    let o = c.offered-offer in
+    let set = row_set a.bytes.now a.at in
+    c.choice_fault.ensures a.t a.st set refl (offered_of a.t a.st s.result set o.result s.ensures o.ensures)
+    ∙ sym (c.set_fault-early.ensures.passed c.if-early-ne0.false)

@@ -1,0 +1,12 @@
+use mathlib.Core.Path.{sym, ap}
+use borrow.Author.Rules.{rules}
+use Rattle.journal.specs.Rows.{is_stopped}
+use Rattle.journal.proofs.walk.is_stopped.Goals as goal
+
+pub returns-in-Running : goal.returns-in-Running
+unfolding is_stopped
+returns-in-Running c = sym (ap is_stopped c.enum_told-1.given.1)
+
+pub returns-in-Stopped : goal.returns-in-Stopped
+unfolding is_stopped
+returns-in-Stopped c = sym (ap is_stopped c.enum_told-in-Stopped-1.given.1)

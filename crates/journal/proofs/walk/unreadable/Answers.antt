@@ -1,0 +1,10 @@
+use mathlib.Core.Path.{ap₂}
+use Prim.Native.Nat.{ℕ}
+use mathlib.Core.Bool.{false}
+use borrow.Author.Rules.{rules}
+use Rattle.journal.specs.Judging.{unread}
+use Rattle.journal.proofs.walk.unreadable.Goals as goal
+
+pub returns : goal.returns
+unfolding unread
+returns c = ap₂ (λ (n k : ℕ). record { number = n; place = k; row = 0; rows = 0; missed = false }) c.number.ensures c.place.ensures

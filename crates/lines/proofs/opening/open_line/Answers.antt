@@ -1,0 +1,6 @@
+use Rattle.lines.proofs.Lined.{open_put}
+use borrow.Author.Rules.{rules}
+use Rattle.lines.proofs.opening.open_line.Goals as goal
+
+pub returns : goal.returns
+returns c = open_put _ _ _ _ c.first_line-len.ensures

@@ -1,0 +1,6 @@
+use Rattle.lines.proofs.Rulings.{ruling_put}
+use borrow.Author.Rules.{rules}
+use Rattle.lines.proofs.ruling.ruling_line.Goals as goal
+
+pub returns : goal.returns
+returns c = ruling_put _ _ _ c.line-len.ensures

@@ -1,0 +1,6 @@
+use Rattle.lines.proofs.Steps.{opening_shown}
+use borrow.Author.Rules.{rules}
+use Rattle.lines.proofs.showing.show_opening.Goals as goal
+
+pub returns : goal.returns
+returns c = opening_shown _ _ _ c.open-o.result c.open_line-line.ensures c.open-o.ensures

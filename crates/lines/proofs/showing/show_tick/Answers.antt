@@ -1,0 +1,8 @@
+use Rattle.lines.proofs.Steps.{tick_shown}
+use borrow.Author.Rules.{rules}
+use Rattle.lines.proofs.showing.show_tick.Goals as goal
+
+pub returns : goal.returns
+returns c =
+    let t = c.tick-t in
+    tick_shown _ _ _ _ t.result _ c.tick_line-line.ensures c.live_slots-live.ensures t.ensures

@@ -1,0 +1,18 @@
+-- A loop over the slots of the set: at those it has passed stand their ready vertices.
+use Rattle.std.proofs.Common.{ℕ, ◌%◌, List, get_or, refl, arith, rules}
+use Rattle.graph.specs.Words.{set_of}
+use Rattle.table.specs.declared.Task.{Task}
+use Rattle.table.specs.Memory.{no_task, task}
+use Rattle.slots.specs.Slots.{is_ready}
+use Rattle.machine.proofs.Sweeping.{falls, Swept, swept_none, swept_at, swept_zeros}
+use Rattle.machine.proofs.choosing.sets_of.Given as goal
+
+-- the ready vertices of slot s
+abbrev pub ready_in : List Task → List ℕ → ℕ → ℕ
+ready_in tasks rest s = set_of 16 (is_ready (get_or tasks (s % 16) no_task).succ (get_or tasks (s % 16) no_task).v rest s)
+
+abbrev pub invariant-loop-rest : goal.invariant-loop-rest
+invariant-loop-rest l = Swept 0 (ready_in l.tasks l.remaining) l.initial.sets l.live l.rest l.sets
+
+abbrev pub decreases-loop-rest : goal.decreases-loop-rest
+decreases-loop-rest l = l.rest

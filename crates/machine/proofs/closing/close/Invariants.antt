@@ -1,0 +1,11 @@
+-- The slots are passed from the lowest up: proofs/Taking.antt.
+use Rattle.std.proofs.Common.{⊎_elim, arith, rules}
+use Rattle.machine.proofs.Sweeping.{falls}
+use Rattle.machine.proofs.Taking.{Closing, closing_none, closing_with, closing_without, closing_live, closing_ends, closing_work, closing_rest}
+use Rattle.machine.proofs.closing.close.Given as goal
+
+abbrev pub invariant-loop-rest : goal.invariant-loop-rest
+invariant-loop-rest l = Closing l.over l.going l.initial.deadlines l.initial.remaining l.initial.work l.initial.rest l.rest l.live l.deadlines l.remaining l.work
+
+abbrev pub decreases-loop-rest : goal.decreases-loop-rest
+decreases-loop-rest l = l.rest

@@ -1,0 +1,7 @@
+-- Sixteen bits, four times.
+use Rattle.std.proofs.Common.{refl, rules}
+use Rattle.machine.proofs.Gaps.{slots_are}
+use Rattle.machine.proofs.closing.slots_of.Goals as goal
+
+pub returns : goal.returns
+returns c = slots_are c.args.tasks _ (search rules) refl

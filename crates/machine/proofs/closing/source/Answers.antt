@@ -1,0 +1,40 @@
+use Rattle.std.proofs.Common.{◌≡◌, ℕ, ◌+◌, ◌-◌, ◌*◌, ◌/◌, ◌%◌, ◌≤◌, ap, ⊎_elim, arith, rules, eq-eqb, ne_eqb}
+use Rattle.graph.specs.Words.{flag, bit, sum}
+use Rattle.slots.proofs.Cases.{sum_next}
+use Rattle.machine.proofs.Gaps.{source_found, source_none}
+use Rattle.machine.proofs.closing.source.Invariants.{goes_on}
+use Rattle.machine.proofs.closing.source.Goals as goal
+
+pub loop-p-init : goal.loop-p-init
+unfolding sum
+loop-p-init c = (omega arith, omega arith)
+
+pub returns-then-wanted-eq0 : goal.returns-then-wanted-eq0
+unfolding bit
+returns-then-wanted-eq0 c =
+    let l = c.loop-p in
+    let a = c.args in
+    (source_found a.going a.s l.p (omega arith) (eq-eqb _ _ c.if-going-p-eq1.true) (omega (arith, l.invariant.1)), omega arith)
+
+pub loop-p-preserved : goal.loop-p-preserved
+unfolding bit flag
+loop-p-preserved c =
+    let l = c.loop-p in
+    let a = c.args in
+    let n = sum_next l.p (goes_on a.going a.s) in
+    ⊎_elim
+    (λ w.
+    let e : flag (bit a.going (16 * l.p + a.s % 16)) ≡ 1 = ap flag (eq-eqb _ _ w.0.taken) in
+    (omega arith, omega (arith, w.2, w.1.left, e, n, l.invariant.1)))
+    (λ w.
+    let e : flag (bit a.going (16 * l.p + a.s % 16)) ≡ 0 = ap flag (ne_eqb _ _ w.0.left) in
+    (omega arith, omega (arith, w.1, e, n, l.invariant.1)))
+    c.if-going-p-eq1.branch
+
+pub returns : goal.returns
+returns c =
+    let l = c.loop-p in
+    let a = c.args in
+    let e : l.p ≡ 4 = omega arith in
+    let z = ap (λ (n : ℕ). sum n (goes_on a.going a.s)) e in
+    (source_none a.going a.s (omega (arith, z, l.invariant.1)), omega arith)

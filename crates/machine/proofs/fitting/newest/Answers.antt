@@ -1,0 +1,9 @@
+use Rattle.machine.proofs.Judging.{newest_then, newest_else}
+use Rattle.std.proofs.Common.{sym, ◌∙◌, arith, rules}
+use Rattle.machine.proofs.fitting.newest.Goals as goal
+
+pub returns-then-followed : goal.returns-then-followed
+returns-then-followed c = newest_then _ _ _ _ _ _ (sym c.followed.ensures ∙ c.if-followed.true)
+
+pub returns : goal.returns
+returns c = newest_else _ _ _ _ _ _ (sym c.followed.ensures ∙ c.if-followed.false)

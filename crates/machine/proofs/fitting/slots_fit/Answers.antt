@@ -1,0 +1,24 @@
+use Rattle.std.proofs.Common.{◌≡◌, ℕ, ◌-◌, ◌%◌, ◌≤◌, Bool, true, List, get_or, sym, refl, ◌∙◌, arith, rules}
+use Rattle.graph.specs.Words.{bit, all}
+use Rattle.slots.proofs.Behind.{all_more, all_off, all_done_lem}
+use Rattle.table.specs.declared.Task.{Task}
+use Rattle.table.specs.Memory.{no_task}
+use Rattle.machine.specs.Rows.{slot_fits}
+use borrow.Author.Tests.{not-true, not-false}
+use Rattle.machine.proofs.fitting.slots_fit.Invariants.{fits_in}
+use Rattle.machine.proofs.fitting.slots_fit.Goals as goal
+
+pub loop-s-init : goal.loop-s-init
+unfolding all
+loop-s-init c = (omega arith, refl)
+
+pub returns-then-not-slot_fits : goal.returns-then-not-slot_fits
+unfolding no_task
+returns-then-not-slot_fits c = let l = c.loop-s in all_off 64 _ l.s (omega arith) (sym c.slot_fits.ensures ∙ not-true _ c.if-not-slot_fits.true)
+
+pub loop-s-preserved : goal.loop-s-preserved
+unfolding no_task
+loop-s-preserved c = let l = c.loop-s in (omega arith, all_more _ _ l.invariant.1 (sym c.slot_fits.ensures ∙ not-false _ c.if-not-slot_fits.false))
+
+pub returns : goal.returns
+returns c = all_done_lem 64 _ c.loop-s.s (omega arith) c.loop-s.invariant.1

@@ -1,0 +1,9 @@
+use Rattle.machine.proofs.Judging.{wait_none, wait_some}
+use Rattle.std.proofs.Common.{arith, rules}
+use Rattle.machine.proofs.fitting.wait_fits.Goals as goal
+
+pub returns-then-n-i : goal.returns-then-n-i
+returns-then-n-i c = wait_none _ _ _ _ (omega arith)
+
+pub returns : goal.returns
+returns c = wait_some _ _ _ _ (omega arith)

@@ -1,0 +1,11 @@
+use Rattle.std.proofs.Common.{sym, ap, rules}
+use Rattle.machine.specs.States.{deadline_of}
+use Rattle.machine.proofs.held.deadline_of.Goals as goal
+
+pub returns-in-Nothing : goal.returns-in-Nothing
+unfolding deadline_of
+returns-in-Nothing c = sym (ap deadline_of c.enum_told-1.given.1)
+
+pub returns-in-Live : goal.returns-in-Live
+unfolding deadline_of
+returns-in-Live c = sym (ap deadline_of c.j-1.given.1)

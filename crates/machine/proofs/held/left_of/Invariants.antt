@@ -1,0 +1,14 @@
+use Rattle.std.proofs.Common.{ℕ, List, get_or, refl, arith, rules}
+use Rattle.machine.specs.States.{ticks_left}
+use Rattle.machine.proofs.Sweeping.{falls, Swept, swept_none, swept_at, swept_zeros}
+use Rattle.machine.proofs.held.left_of.Given as goal
+
+-- the ticks left at slot s
+abbrev pub left_in : List ℕ → ℕ → ℕ → ℕ
+left_in deadlines clock s = ticks_left (get_or deadlines s 0) clock
+
+abbrev pub invariant-loop-rest : goal.invariant-loop-rest
+invariant-loop-rest l = Swept 0 (left_in l.deadlines l.clock) l.initial.left l.set l.rest l.left
+
+abbrev pub decreases-loop-rest : goal.decreases-loop-rest
+decreases-loop-rest l = l.rest

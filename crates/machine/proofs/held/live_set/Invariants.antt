@@ -1,0 +1,18 @@
+use Rattle.std.proofs.Common.{◌≡◌, ℕ, ◌+◌, ◌-◌, ◌≤◌, Bool, List, sym, refl, ap, ◌∙◌, ap₂, ⊎_elim, arith, rules}
+use Rattle.graph.specs.Words.{sum, set_of}
+use Rattle.graph.proofs.Sets.{set_with, set_without}
+use Rattle.machine.specs.declared.TaskState.{TaskState}
+use Rattle.machine.specs.States.{no_job, is_live}
+use Rattle.machine.specs.Rows.{no_task, job_in}
+use Rattle.machine.proofs.Sweeping.{slot_room}
+use Rattle.machine.proofs.held.live_set.Given as goal
+
+-- slot s has a live job
+abbrev pub live_in : List TaskState → ℕ → Bool
+live_in states s = is_live (job_in states s)
+
+abbrev pub invariant-loop-s : goal.invariant-loop-s
+invariant-loop-s l = (l.s ≤ 64) × (l.set ≡ set_of l.s (live_in l.states))
+
+abbrev pub decreases-loop-s : goal.decreases-loop-s
+decreases-loop-s l = 64 - l.s

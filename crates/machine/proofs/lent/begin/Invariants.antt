@@ -1,0 +1,15 @@
+use Rattle.std.proofs.Common.{ℕ, ◌+◌, ◌%◌, List, get_or, arith, rules}
+use Rattle.table.specs.declared.Task.{Task}
+use Rattle.table.specs.Memory.{no_task, task, D}
+use Rattle.machine.specs.States.{wrap}
+use Rattle.machine.proofs.Sweeping.{falls, Swept, swept_none, swept_at, swept_all}
+use Rattle.machine.proofs.lent.begin.Given as goal
+
+abbrev pub deadline_in : ℕ → List Task → ℕ → ℕ
+deadline_in clock tasks s = wrap (clock + (get_or tasks (s % 16) no_task).d)
+
+abbrev pub invariant-loop-rest : goal.invariant-loop-rest
+invariant-loop-rest l = Swept 0 (deadline_in l.clock l.tasks) l.initial.deadlines l.fresh l.rest l.deadlines
+
+abbrev pub decreases-loop-rest : goal.decreases-loop-rest
+decreases-loop-rest l = l.rest

@@ -1,0 +1,25 @@
+use Rattle.std.proofs.Common.{ℕ, ◌-◌, ◌≤◌, List, get_or, refl, ⊎_elim, arith, rules, eq-eqb, ne_eqb}
+use Rattle.graph.specs.Words.{pick, bit}
+use Rattle.table.specs.declared.Task.{Task}
+use Rattle.table.specs.Memory.{no_task, task, T}
+use Rattle.machine.proofs.Filling.{Filled, filled_none, filled_set, filled_kept, filled_all}
+use Rattle.machine.proofs.lent.wait_anew.Invariants.{wait_in}
+use Rattle.machine.proofs.lent.wait_anew.Goals as goal
+
+pub loop-i-init : goal.loop-i-init
+loop-i-init c = (search rules, filled_none 16 0 _ _ c.requires)
+
+pub loop-i-preserved : goal.loop-i-preserved
+unfolding bit no_task
+loop-i-preserved c =
+    let l = c.loop-i in
+    let a = c.args in
+    let g = wait_in a.named a.t.tasks a.waits.now in
+    ⊎_elim
+    (λ w. (omega arith, rw w.1 (filled_set 16 0 g a.waits.now l.i l.waits l.invariant.1 _ (omega arith) (rw (eq-eqb _ _ w.0.taken) refl))))
+    (λ w. (omega arith, rw w.1 (filled_kept 16 0 g a.waits.now l.i l.waits l.invariant.1 (rw (ne_eqb _ _ w.0.left) refl))))
+    c.if-named-i-eq1.branch
+
+pub returns : goal.returns
+unfolding T task
+returns c = filled_all 16 0 _ _ _ _ c.loop-i.invariant.1 (omega arith)

@@ -1,0 +1,15 @@
+use Rattle.std.proofs.Common.{ℕ, ◌-◌, ◌≤◌, List, get_or, refl, ⊎_elim, arith, rules, eq-eqb, ne_eqb}
+use Rattle.graph.specs.Words.{pick, bit}
+use Rattle.table.specs.declared.Task.{Task}
+use Rattle.table.specs.Memory.{no_task, task, T}
+use Rattle.machine.proofs.Filling.{Filled, filled_none, filled_set, filled_kept, filled_all}
+use Rattle.machine.proofs.lent.wait_anew.Given as goal
+
+abbrev pub wait_in : ℕ → List Task → List ℕ → ℕ → ℕ
+wait_in named tasks before k = pick (bit named k) (get_or tasks k no_task).t (get_or before k 0)
+
+abbrev pub invariant-loop-i : goal.invariant-loop-i
+invariant-loop-i l = (l.i ≤ 16) × Filled 16 0 (wait_in l.named l.tasks l.initial.waits) l.initial.waits l.i l.waits
+
+abbrev pub decreases-loop-i : goal.decreases-loop-i
+decreases-loop-i l = 16 - l.i

@@ -1,0 +1,7 @@
+use Rattle.std.proofs.Common.{rules}
+use Rattle.machine.specs.States.{unopened}
+use Rattle.machine.proofs.opening.unopened.Goals as goal
+
+pub returns : goal.returns
+unfolding unopened
+returns c = rw (c.zeros-state.ensures, c.number.ensures, c.place.ensures)

@@ -1,0 +1,13 @@
+-- `at_of` meets its contract, by the case of the phase.
+use mathlib.Core.Path.{sym, ap}
+use borrow.Author.Rules.{rules}
+use Rattle.panel.specs.States.{at_of}
+use Rattle.panel.proofs.states.at_of.Goals as goal
+
+pub returns-in-Running : goal.returns-in-Running
+unfolding at_of
+returns-in-Running c = sym (ap at_of c.enum_told-1.given.1)
+
+pub returns-in-Stopped : goal.returns-in-Stopped
+unfolding at_of
+returns-in-Stopped c = sym (ap at_of c.p-1.given.1)

@@ -1,0 +1,25 @@
+use mathlib.Core.Path.{refl}
+use mathlib.Core.List.{List}
+use Prim.Native.Nat.{ℕ, ◌-◌, ◌≤◌}
+use lib.ListN.{get_or}
+use borrow.Author.Rules.{rules}
+use native.Mathlib.Omega.{arith}
+use Rattle.machine.proofs.Filling.{Filled, filled_none, filled_set, filled_all}
+use Rattle.machine.specs.declared.Place.{Place}
+use Rattle.machine.specs.States.{no_job}
+use Rattle.panel.specs.States.{live_of, live_flags}
+use Rattle.panel.proofs.states.live_flags.Invariants.{entry_of}
+use Rattle.panel.proofs.states.live_flags.Goals as goal
+
+pub loop-p-init : goal.loop-p-init
+loop-p-init c = (search rules, filled_none 4 0 _ _ refl)
+
+pub loop-p-preserved : goal.loop-p-preserved
+unfolding no_job
+loop-p-preserved c =
+    let l = c.loop-p in
+    (omega arith, filled_set 4 0 _ _ l.p l.flags l.invariant.1 c.live_of.result (omega arith) c.live_of.ensures)
+
+pub returns : goal.returns
+unfolding live_flags
+returns c = filled_all 4 0 _ _ _ _ c.loop-p.invariant.1 (omega arith)

@@ -1,0 +1,13 @@
+use mathlib.Core.Path.{refl}
+use native.Mathlib.Omega.{arith}
+use Rattle.text.proofs.Putting.{put_then, put_on, decimal_within}
+use borrow.Author.Rules.{rules}
+use Rattle.reports.proofs.printing.labelled.Goals as goal
+
+pub overflow_add-result : goal.overflow_add-result
+overflow_add-result c = omega (arith, decimal_within _ _ c.put_decimal.ensures.1)
+
+pub returns : goal.returns
+returns c =
+    let p = put_then (put_on c.put_bytes.ensures refl) (put_on c.put_decimal.ensures.0 c.put_decimal.ensures.1) in
+    (p, omega (arith, decimal_within _ _ c.put_decimal.ensures.1))

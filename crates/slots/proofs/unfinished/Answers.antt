@@ -1,0 +1,31 @@
+use mathlib.Core.Logic.{⊎_elim}
+use Prim.Native.Nat.{◌-◌}
+use native.Mathlib.Omega.{arith}
+use borrow.Author.Rules.{rules}
+use Rattle.slots.proofs.Behind.{Gathered, gathered_none, gathered_more, gathered_same, gathered_all, gathered_past}
+use Rattle.slots.proofs.unfinished.Goals as goal
+
+-- past the sixty-four slots
+pub returns-then-s-ge64 : goal.returns-then-s-ge64
+returns-then-s-ge64 c =
+    let a = c.args in
+    gathered_past a.remaining.now a.s (omega arith)
+
+pub loop-u-init : goal.loop-u-init
+loop-u-init c = gathered_none _ _
+
+pub loop-u-preserved : goal.loop-u-preserved
+loop-u-preserved c =
+    let a = c.args in
+    let l = c.loop-u in
+    ⊎_elim
+    (λ w. rw w.1 (gathered_more a.remaining.now a.s l.u l.set (omega arith) l.invariant w.0.taken))
+    (λ w. rw w.1 (gathered_same a.remaining.now a.s l.u l.set (omega arith) l.invariant (omega (arith, w.0.left))))
+    c.if-remaining-s-ne0.branch
+
+pub returns : goal.returns
+returns c =
+    let a = c.args in
+    let l = c.loop-u in
+    let b = l.invariant.below in
+    gathered_all a.remaining.now a.s l.u l.set (omega arith) (omega arith) l.invariant

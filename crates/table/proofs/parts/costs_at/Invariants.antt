@@ -1,0 +1,19 @@
+-- What is left to read from here gives what all of it gives from the start.
+use Rattle.table.proofs.PartLaws.{costs_end, costs_stop, costs_got}
+use Rattle.table.proofs.FieldLaws.{ticks_read}
+use Rattle.table.specs.declared.CostsRead.{CostsRead}
+use Rattle.table.specs.Reading.{costs_at}
+use lib.ListN.{length}
+use borrow.Author.Rules.{rules}
+use native.Mathlib.Nat.{sub-zero, add-zero}
+use native.Mathlib.Omega.{arith}
+use mathlib.Core.Path.{◌≡◌, refl, ap, ◌∙◌}
+use Prim.Native.Nat.{◌≤◌, ◌+◌, ◌-◌}
+use Rattle.table.proofs.parts.costs_at.Given as goal
+
+abbrev pub invariant-loop-u : goal.invariant-loop-u
+invariant-loop-u l =
+    (l.u ≤ l.v) × (l.p ≤ length l.bytes) × (length l.costs ≡ 256) × (costs_at l.bytes (l.v - l.u) l.p (l.slot + l.u) l.costs ≡ costs_at l.bytes l.v l.at l.slot l.initial.costs)
+
+abbrev pub decreases-loop-u : goal.decreases-loop-u
+decreases-loop-u l = l.v - l.u

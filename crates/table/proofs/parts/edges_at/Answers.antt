@@ -1,0 +1,55 @@
+use Rattle.table.proofs.PartLaws.{edges_end, edges_stop, edges_got}
+use Rattle.table.proofs.FieldLaws.{edge_read}
+use Rattle.table.specs.declared.EdgesRead.{EdgesRead}
+use Rattle.table.specs.Reading.{add_edge, edges_at}
+use lib.ListN.{length}
+use borrow.Author.Rules.{rules}
+use native.Mathlib.Nat.{sub-zero}
+use native.Mathlib.Omega.{arith}
+use mathlib.Core.Path.{◌≡◌, refl, ap, ◌∙◌}
+use Prim.Native.Nat.{◌≤◌, ◌<◌, ◌+◌, ◌-◌}
+use Rattle.table.proofs.parts.edges_at.Goals as goal
+
+-- what is known where an edge was read: the place after it is within the input, and its key is below 256
+within : (c : tie.After-power invariant_loop decreases_loop) → c.before.before.before.before.before.before.loop.p + 2 ≤ length c.before.before.before.before.before.before.before.before.args.bytes.now
+within c = (edge_read _ _ _ _ _ _ c.before.before.before.before.edge_at.ensures c.before.before.key.given.1).0
+
+small : (c : tie.After-power invariant_loop decreases_loop) → c.before.before.key.given.0.0 < 256
+small c = (edge_read _ _ _ _ _ _ c.before.before.before.before.edge_at.ensures c.before.before.key.given.1).2 c.before.before.before.before.before.before.before.before.requires.0
+
+pub loop-i-init : goal.loop-i-init
+loop-i-init c = (search rules, search rules, search rules, rw sub-zero refl)
+
+pub returns-in-Stop : goal.returns-in-Stop
+returns-in-Stop c =
+    let a = c.args in
+    let l = c.loop-i in
+    let r = edges_stop _ _ _ _ _ _ (a.e - (l.i + 1)) (omega arith) _ c.edge_at.ensures _ c.o-1.given.1 ∙ l.invariant.3 in
+    (ap (λ (x : EdgesRead). x.outcome) r, ap (λ (x : EdgesRead). x.succ) r)
+
+pub bounds-succ-from : goal.bounds-succ-from
+bounds-succ-from c = omega (arith, small c)
+
+pub bounds-succ-from-in-Got : goal.bounds-succ-from-in-Got
+bounds-succ-from-in-Got c = omega (arith, small c)
+
+pub overflow_add-low : goal.overflow_add-low
+overflow_add-low c = omega (arith, small c)
+
+pub overflow_add-p : goal.overflow_add-p
+overflow_add-p c = omega (arith, within c)
+
+pub loop-i-preserved : goal.loop-i-preserved
+unfolding add_edge
+loop-i-preserved c =
+    let l = c.loop-i in (
+      search rules,
+      within c,
+      search rules,
+      edges_got _ _ _ _ _ _ _ (omega arith) _ c.edge_at.ensures _ _ c.key-1.given.1 (rw c.power-bit.ensures) ∙ l.invariant.3,
+    )
+
+pub returns : goal.returns
+returns c =
+    let r = edges_end _ _ _ _ _ _ (omega arith) ∙ c.loop-i.invariant.3 in
+    (ap (λ (x : EdgesRead). x.outcome) r, ap (λ (x : EdgesRead). x.succ) r)

@@ -1,0 +1,7 @@
+use Rattle.table.specs.Reading.{refused}
+use borrow.Author.Rules.{rules}
+use Rattle.table.proofs.reading.refusal.Goals as goal
+
+pub returns : goal.returns
+unfolding refused
+returns c = rw c.no_table_cut.ensures

@@ -1,0 +1,16 @@
+-- One byte after another, as many as there are or as there is room for. The invariant: the first i are laid.
+use mathlib.Core.Path.{◌≡◌, refl, sym, ap, ◌∙◌}
+use mathlib.Core.List.{List}
+use Prim.Native.Nat.{ℕ, ◌+◌, ◌-◌, ◌≤◌}
+use native.Mathlib.Omega.{arith}
+use borrow.Author.Rules.{rules}
+use lib.ListN.{length, get_or, set, take, length-set}
+use Rattle.text.specs.Laid.{laid}
+use Rattle.text.proofs.Laying.{laid_none, laid_outside, laid_more, laid_rest}
+use Rattle.text.proofs.put_bytes.Given as goal
+
+abbrev pub invariant-loop-i : goal.invariant-loop-i
+invariant-loop-i l = (l.i ≤ l.n) × (length l.out ≡ length l.initial.out) × (l.out ≡ laid l.initial.out l.at (take l.i l.words))
+
+abbrev pub decreases-loop-i : goal.decreases-loop-i
+decreases-loop-i l = l.n - l.i

@@ -1,0 +1,11 @@
+-- `main` is safe and ends: the buffers keep their length, and each turn leaves fewer cases.
+use mathlib.Core.Path.{◌≡◌}
+use lib.ListN.{length}
+use borrow.Author.Rules.{rules}
+use Rattle.trial_journal.proofs.main.Given as goal
+
+abbrev pub invariant-loop-left : goal.invariant-loop-left
+invariant-loop-left l = (length l.file ≡ 65536) × (length l.rows ≡ 65536)
+
+abbrev pub decreases-loop-left : goal.decreases-loop-left
+decreases-loop-left l = l.left

@@ -1,0 +1,6 @@
+use borrow.Author.Rules.{rules}
+use Rattle.verdict.proofs.judging.verdict_on.Goals as goal
+
+pub chained-requires : goal.chained-requires
+chained-requires c =
+    (c.requires, c.judged-d.ensures c.args.t c.requires c.measures-x.ensures)

@@ -1,0 +1,16 @@
+use mathlib.Core.Path.{◌≡◌, refl, sym, ap, ◌∙◌}
+use Prim.Native.Nat.{ℕ, ◌≤◌, ◌+◌, ◌-◌, ◌*◌}
+use native.Mathlib.Omega.{arith}
+use lib.ListN.{length, get_or}
+use lib.Seq.{sets}
+use borrow.Author.Rules.{rules}
+use Rattle.table.specs.Writing.{bytes4}
+use Rattle.writer.specs.Putting.{cost_bytes}
+use Rattle.writer.proofs.PutLaws.{sets_then, costs_from, costs_start, costs_next, costs_last, four_long}
+use Rattle.writer.proofs.writing.put_costs.Given as goal
+
+abbrev pub invariant-loop-u : goal.invariant-loop-u
+invariant-loop-u l = (l.u ≤ l.v) × (l.p ≡ l.at + 4 * l.u) × (length l.buffer ≡ length l.initial.buffer) × (sets l.buffer l.p (costs_from l.costs l.slot l.v l.u) ≡ sets l.initial.buffer l.at (cost_bytes l.costs l.slot l.v))
+
+abbrev pub decreases-loop-u : goal.decreases-loop-u
+decreases-loop-u l = l.v - l.u

@@ -1,0 +1,68 @@
+use mathlib.Core.Path.{◌≡◌, refl, sym, ap, ◌∙◌}
+use Prim.Native.Nat.{◌≤◌, ◌+◌, ◌-◌, ◌*◌}
+use native.Mathlib.Omega.{arith}
+use lib.ListN.{length, length-append}
+use lib.Seq.{sets}
+use borrow.Author.Rules.{rules}
+use Rattle.graph.specs.Words.{in_order}
+use Rattle.table.specs.Memory.{task, no_task}
+use Rattle.table.specs.Writing.{encode_task}
+use Rattle.writer.specs.Putting.{task_bytes}
+use Rattle.writer.proofs.Passed.{passed_n, passed_counts}
+use Rattle.writer.proofs.PutLaws.{sets_then, tasks_from, tasks_first, tasks_then, tasks_done}
+use Rattle.writer.proofs.writing.put_tasks.Goals as goal
+
+pub loop-i-init : goal.loop-i-init
+loop-i-init c =
+    let t = c.args.table in
+    let e = tasks_first t in
+    let n = ap length e in
+    (search rules, refl, omega arith, ap (sets c.args.buffer.now 4) e)
+
+pub bounds-table-i : goal.bounds-table-i
+bounds-table-i c =
+    let l = c.loop-i in
+    let t = c.args.table in
+    let n = passed_n t c.requires.0 in
+    omega arith
+
+pub put_task-p-requires : goal.put_task-p-requires
+unfolding task no_task
+put_task-p-requires c =
+    let l = c.loop-i in
+    let t = c.args.table in
+    let n = passed_n t c.requires.0 in
+    let k = passed_counts t c.requires.0 l.i (omega arith) in
+    let e = ap length (tasks_then t l.i (omega arith)) in
+    let f = length-append (task_bytes (task t l.i) t.costs (16 * l.i)) (tasks_from t (l.i + 1)) in
+    let g = l.invariant.2 in
+    let m = l.invariant.1 in
+    let h = c.requires.1 in
+    ((k.v_high, k.e_high, omega arith), omega arith)
+
+pub loop-i-preserved : goal.loop-i-preserved
+unfolding task no_task
+loop-i-preserved c =
+    let l = c.loop-i in
+    let t = c.args.table in
+    let n = passed_n t c.requires.0 in
+    let r = c.put_task-p in
+    let bs = task_bytes (task t l.i) t.costs (16 * l.i) in
+    let w = tasks_then t l.i (omega arith) in
+    let e = ap length w in
+    let f = length-append bs (tasks_from t (l.i + 1)) in
+    let g = l.invariant.2 in
+    let q : r.result ≡ l.p + length bs = r.ensures.1 in (
+      search rules,
+      r.auto.0 ∙ l.invariant.1,
+      omega arith,
+      sets_then bs (tasks_from t (l.i + 1)) l.buffer r.new.buffer l.p r.result r.ensures.0 q ∙ ap (sets l.buffer l.p) (sym w) ∙ l.invariant.3,
+    )
+
+pub shape_of-buffer : goal.shape_of-buffer
+shape_of-buffer c = c.loop-i.invariant.1
+
+pub returns : goal.returns
+returns c =
+    let l = c.loop-i in
+    ap (sets l.buffer l.p) (sym (tasks_done c.args.table l.i (omega arith))) ∙ l.invariant.3
