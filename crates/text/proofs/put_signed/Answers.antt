@@ -13,10 +13,10 @@ use Rattle.text.proofs.Sign.{Below, NotBelow, below, not_below, less_fits, less_
 use Rattle.text.proofs.put_signed.Goals as goal
 
 -- what the test told of the number, in each arm
-is_below : (c : tie.Then1) → Below c.before.before.args.x
+is_below : (c : goal.Then-x-lt0) → Below c.before.before.args.x
 is_below c = below c.before.before.ranges.x c.if1.true
 
-is_not_below : (c : tie.Else1) → NotBelow c.before.before.args.x
+is_not_below : (c : goal.Else-x-lt0) → NotBelow c.before.before.args.x
 is_not_below c = not_below c.before.before.ranges.x c.if1.false
 
 pub overflow_sub-below : goal.overflow_sub-below

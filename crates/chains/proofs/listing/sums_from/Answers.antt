@@ -14,21 +14,21 @@ pub free_of-u-requires : goal.free_of-u-requires
 free_of-u-requires c = (search rules, c.requires)
 
 pub offset_bounds-succ-u : goal.offset_bounds-succ-u
-offset_bounds-succ-u c = omega (arith, c.Free-of.ensures.0)
+offset_bounds-succ-u c = omega (arith, c.free_of-u.ensures.0)
 
 pub bounds-succ-u : goal.bounds-succ-u
-bounds-succ-u c = c.Free-of.ensures.0
+bounds-succ-u c = c.free_of-u.ensures.0
 
 pub offset_bounds-times-u : goal.offset_bounds-times-u
-offset_bounds-times-u c = omega (arith, c.Free-of.ensures.0)
+offset_bounds-times-u c = omega (arith, c.free_of-u.ensures.0)
 
 pub bounds-times-u : goal.bounds-times-u
-bounds-times-u c = c.Free-of.ensures.0
+bounds-times-u c = c.free_of-u.ensures.0
 
 pub overflow_add-sums : goal.overflow_add-sums
 overflow_add-sums c =
     let l = c.loop-left in
-    let u = c.Free-of in
+    let u = c.free_of-u in
     let m = c.largest_of-after in
     let t = c.wide in
     let brief : (k : ℕ) → Fits w32 (get_or c.args.times k 0) = λ k. search rules in
@@ -39,21 +39,21 @@ overflow_add-sums c =
     )
 
 pub offset_bounds-sums-u : goal.offset_bounds-sums-u
-offset_bounds-sums-u c = omega (arith, c.Free-of.ensures.0)
+offset_bounds-sums-u c = omega (arith, c.free_of-u.ensures.0)
 
 pub bounds-sums-u : goal.bounds-sums-u
-bounds-sums-u c = c.Free-of.ensures.0
+bounds-sums-u c = c.free_of-u.ensures.0
 
 pub overflow_cast-left : goal.overflow_cast-left
-overflow_cast-left c = omega (arith, c.Free-of.ensures.0)
+overflow_cast-left c = omega (arith, c.free_of-u.ensures.0)
 
 pub overflow_shl-left : goal.overflow_shl-left
-overflow_shl-left c = c.Free-of.ensures.0
+overflow_shl-left c = c.free_of-u.ensures.0
 
 pub loop-left-smaller : goal.loop-left-smaller
 loop-left-smaller c =
     let l = c.loop-left in
-    let u = c.Free-of in
+    let u = c.free_of-u in
     let m = c.largest_of-after in
     let t = c.wide in
     reckoned_less c.args.succ c.args.times c.requires l.left l.sums l.invariant u.result u.ensures.0 u.ensures.1 u.ensures.2
@@ -62,7 +62,7 @@ loop-left-smaller c =
 pub loop-left-preserved : goal.loop-left-preserved
 loop-left-preserved c =
     let l = c.loop-left in
-    let u = c.Free-of in
+    let u = c.free_of-u in
     let m = c.largest_of-after in
     let t = c.wide in
     reckoned_next c.args.succ c.args.times c.requires l.left l.sums l.invariant u.result u.ensures.0 u.ensures.1 u.ensures.2

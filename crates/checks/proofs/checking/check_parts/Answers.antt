@@ -18,7 +18,7 @@ pub returns-in_default-p : goal.returns-in_default-p
 returns-in_default-p c =
     let a = c.args in
     c.stop-in_default-p.ensures
-    ∙ parts_edges a.succ a.costs.now a.slot a.at a.v c.costs_tested-o.result c.costs_tested-o.ensures c.enum_told-1.given.1
+    ∙ parts_edges a.succ a.costs.now a.slot a.at a.v c.costs_tested-o.result c.costs_tested-o.ensures c.in-Read.is
     c.edges_tested-g.result c.edges_tested-g.ensures c.in-Read-p.keys2
 
 pub returns-then-is_acyclic : goal.returns-then-is_acyclic
@@ -27,8 +27,8 @@ returns-then-is_acyclic c =
     let b = c.is_acyclic.ensures ∙ ap acyclic c.used_rows.ensures in
     let t = c.if-is_acyclic.true in
     ap (λ (b : Bool). pick b (record { outcome = Read; next = c.edges_tested-g.result.next }) (stopped (Cycle a.at))) (sym t)
-    ∙ parts_last a.succ a.costs.now a.slot a.at a.v c.costs_tested-o.result c.costs_tested-o.ensures c.enum_told-1.given.1
-    c.edges_tested-g.result c.edges_tested-g.ensures c.is_acyclic.result b c.enum_told-in-Read-p-1.given.1
+    ∙ parts_last a.succ a.costs.now a.slot a.at a.v c.costs_tested-o.result c.costs_tested-o.ensures c.in-Read.is
+    c.edges_tested-g.result c.edges_tested-g.ensures c.is_acyclic.result b c.in-Read-p.is
 
 pub returns : goal.returns
 returns c =
@@ -37,5 +37,5 @@ returns c =
     let t = c.if-is_acyclic.false in
     c.stop-2.ensures
     ∙ ap (λ (b : Bool). pick b (record { outcome = Read; next = c.edges_tested-g.result.next }) (stopped (Cycle a.at))) (sym t)
-    ∙ parts_last a.succ a.costs.now a.slot a.at a.v c.costs_tested-o.result c.costs_tested-o.ensures c.enum_told-1.given.1
-    c.edges_tested-g.result c.edges_tested-g.ensures c.is_acyclic.result b c.enum_told-in-Read-p-1.given.1
+    ∙ parts_last a.succ a.costs.now a.slot a.at a.v c.costs_tested-o.result c.costs_tested-o.ensures c.in-Read.is
+    c.edges_tested-g.result c.edges_tested-g.ensures c.is_acyclic.result b c.in-Read-p.is

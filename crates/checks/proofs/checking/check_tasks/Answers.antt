@@ -28,7 +28,7 @@ loop-i-preserved c =
     let q : r.result.next ≤ c.loop-i.at + 316 = rw e n in (
       search rules,
       omega arith,
-      tasks_go c.args.table (c.args.table.n - c.loop-i.i) (c.args.table.n - (c.loop-i.i + 1)) c.loop-i.i c.loop-i.at (omega arith) r.result e c.enum_told-1.given.1
+      tasks_go c.args.table (c.args.table.n - c.loop-i.i) (c.args.table.n - (c.loop-i.i + 1)) c.loop-i.i c.loop-i.at (omega arith) r.result e c.in-Read.is
           ∙ c.loop-i.invariant.2,
     )
 

@@ -9,4 +9,4 @@ pub returns-then-v-gt16 : goal.returns-then-v-gt16
 returns-then-v-gt16 c = edges_past _ _ (omega arith)
 
 pub returns : goal.returns
-returns c = c.IsEdge-count.ensures.0 ∙ edges_counted _ _ (omega arith)
+returns c = c.edge_count.ensures.0 ∙ edges_counted _ _ (omega arith)

@@ -34,7 +34,7 @@ loop-u-preserved c =
     let q : r.result.next ≤ c.loop-u.p + 2 * length (row_keys 16 c.loop-u.u 0 x) = rw r.ensures n in (
       search rules,
       omega arith,
-      rows_go c.args.v c.args.succ c.loop-u.u c.loop-u.p r.result (omega arith) r.ensures c.enum_told-1.given.1 ∙ c.loop-u.invariant.2,
+      rows_go c.args.v c.args.succ c.loop-u.u c.loop-u.p r.result (omega arith) r.ensures c.in-Read.is ∙ c.loop-u.invariant.2,
     )
 
 pub returns : goal.returns

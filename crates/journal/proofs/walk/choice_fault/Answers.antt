@@ -19,12 +19,12 @@ use Rattle.journal.proofs.walk.choice_fault.Goals as goal
 
 module _ (t : Table) (st : State) (set : ℕ) where
   -- the tests, of the state after step 1
-  lost : (c : tie.After-are-in) → c.before.before.before.args.offer ≡ offered t st set → not c.are-in.result ≡ not_available t (released t st set) c.before.before.before.args.bytes.now c.before.before.before.args.at
+  lost : (c : goal.After-are_in) → c.before.before.before.args.offer ≡ offered t st set → not c.are-in.result ≡ not_available t (released t st set) c.before.before.before.args.bytes.now c.before.before.before.args.at
   lost c o =
       let a = c.before.before.before.args in
       all_in_lem t (released t st set) a.bytes.now a.at a.offer.sets c.are-in.result (offered_sets t st set a.offer o) c.are-in.ensures
 
-  few : (c : tie.After-is-few) → c.before.before.before.before.before.before.args.m ≡ t.m → c.before.before.before.before.before.before.args.offer ≡ offered t st set → c.is-few.result ≡ too_few t (released t st set) c.before.before.before.before.before.before.args.bytes.now c.before.before.before.before.before.before.args.at
+  few : (c : goal.After-is_few) → c.before.before.before.before.before.before.args.m ≡ t.m → c.before.before.before.before.before.before.args.offer ≡ offered t st set → c.is-few.result ≡ too_few t (released t st set) c.before.before.before.before.before.before.args.bytes.now c.before.before.before.before.before.before.args.at
   few c e o =
       let a = c.before.before.before.before.before.before.args in
       let j = c.before.count_at in
@@ -33,16 +33,16 @@ module _ (t : Table) (st : State) (set : ℕ) where
       (c.is-few.ensures ∙ ap (λ (m : ℕ). ltb j.result (min m n)) e) j.ensures.0
       (all_counted t (released t st set) a.offer.sets n (offered_sets t st set a.offer o) refl)
 
-  over : (c : tie.After-is-passing-over) → c.before.before.before.before.before.before.before.before.before.args.offer ≡ offered t st set → c.is-passing-over.result ≡ passes_over t (released t st set) (listed c.before.before.before.before.before.before.before.before.before.args.bytes.now c.before.before.before.before.before.before.before.before.before.args.at)
+  over : (c : goal.After-is_passing_over) → c.before.before.before.before.before.before.before.before.before.args.offer ≡ offered t st set → c.is-passing-over.result ≡ passes_over t (released t st set) (listed c.before.before.before.before.before.before.before.before.before.args.bytes.now c.before.before.before.before.before.before.before.before.before.args.at)
   over c o =
       let a = c.before.before.before.before.before.before.before.before.before.args in
       c.is-passing-over.ensures t (released t st set) (offered_sets t st set a.offer o) (offered_left t st set a.offer o)
 
   -- what is known once each was passed
-  clear : (c : tie.Else1) → c.before.before.before.before.args.offer ≡ offered t st set → not_available t (released t st set) c.before.before.before.before.args.bytes.now c.before.before.before.before.args.at ≡ false
+  clear : (c : goal.Else-not-are_in) → c.before.before.before.before.args.offer ≡ offered t st set → not_available t (released t st set) c.before.before.before.before.args.bytes.now c.before.before.before.before.args.at ≡ false
   clear c o = sym (lost c.before o) ∙ c.if1.false
 
-  enough : (c : tie.Else2) → c.before.before.before.before.before.before.before.args.m ≡ t.m → c.before.before.before.before.before.before.before.args.offer ≡ offered t st set → too_few t (released t st set) c.before.before.before.before.before.before.before.args.bytes.now c.before.before.before.before.before.before.before.args.at ≡ false
+  enough : (c : goal.Else-is_few) → c.before.before.before.before.before.before.before.args.m ≡ t.m → c.before.before.before.before.before.before.before.args.offer ≡ offered t st set → too_few t (released t st set) c.before.before.before.before.before.before.before.args.bytes.now c.before.before.before.before.before.before.before.args.at ≡ false
   enough c e o = sym (few c.before e o) ∙ c.if2.false
 
 pub returns-then-not-are_in : goal.returns-then-not-are_in

@@ -8,7 +8,7 @@ use Rattle.journal.proofs.RowFaults.{offered_of}
 use Rattle.journal.proofs.walk.fault.Goals as goal
 
 -- what is known once the row's bytes and its release set were passed: it is whole
-whole : (c : tie.Else1) → row_end c.before.before.before.args.bytes.now c.before.before.before.args.at ≤ length c.before.before.before.args.bytes.now
+whole : (c : goal.Else-early-ne0) → row_end c.before.before.before.args.bytes.now c.before.before.before.args.at ≤ length c.before.before.before.args.bytes.now
 whole c = c.before.set-fault.ensures.whole c.if1.false
 
 pub set_fault-early-requires : goal.set_fault-early-requires

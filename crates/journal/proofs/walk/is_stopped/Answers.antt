@@ -5,8 +5,8 @@ use Rattle.journal.proofs.walk.is_stopped.Goals as goal
 
 pub returns-in-Running : goal.returns-in-Running
 unfolding is_stopped
-returns-in-Running c = sym (ap is_stopped c.enum_told-1.given.1)
+returns-in-Running c = sym (ap is_stopped c.in-Running.is)
 
 pub returns-in-Stopped : goal.returns-in-Stopped
 unfolding is_stopped
-returns-in-Stopped c = sym (ap is_stopped c.enum_told-in-Stopped-1.given.1)
+returns-in-Stopped c = sym (ap is_stopped c.in-Stopped.is)

@@ -12,31 +12,31 @@ use Rattle.journal.proofs.RowFaults.{is_whole, stopped_47, cut_40, mark_41, list
 use Rattle.journal.proofs.walk.set_fault.Goals as goal
 
 -- what is known once each test was passed
-runs : (c : tie.Else1) → is_stopped c.before.before.before.args.st.phase ≡ false
+runs : (c : goal.Else-is_stopped) → is_stopped c.before.before.before.args.st.phase ≡ false
 runs c = sym c.before.is-stopped.ensures ∙ c.if1.false
 
-uncut : (c : tie.Else2) → cut_short c.before.before.before.before.before.args.bytes.now c.before.before.before.before.before.args.at ≡ false
+uncut : (c : goal.Else-is_cut) → cut_short c.before.before.before.before.before.args.bytes.now c.before.before.before.before.before.args.at ≡ false
 uncut c = sym c.before.is_cut.ensures ∙ c.if2.false
 
-whole : (c : tie.Else2) → row_end c.before.before.before.before.before.args.bytes.now c.before.before.before.before.before.args.at ≤ length c.before.before.before.before.before.args.bytes.now
+whole : (c : goal.Else-is_cut) → row_end c.before.before.before.before.before.args.bytes.now c.before.before.before.before.before.args.at ≤ length c.before.before.before.before.before.args.bytes.now
 whole c =
     let a = c.before.before.before.before.before.args in
     is_whole a.t a.st a.bytes.now a.at (runs c.before.before) (uncut c)
 
-marked : (c : tie.Else3) → wrong_mark c.before.before.before.before.before.before.before.args.bytes.now c.before.before.before.before.before.before.before.args.at ≡ false
+marked : (c : goal.Else-is_unmarked) → wrong_mark c.before.before.before.before.before.before.before.args.bytes.now c.before.before.before.before.before.before.before.args.at ≡ false
 marked c = sym c.before.is-unmarked.ensures ∙ c.if3.false
 
-in_order : (c : tie.Else4) → bad_list c.before.before.before.before.before.before.before.before.before.args.t c.before.before.before.before.before.before.before.before.before.args.bytes.now c.before.before.before.before.before.before.before.before.before.args.at ≡ false
+in_order : (c : goal.Else-is_bad_list) → bad_list c.before.before.before.before.before.before.before.before.before.args.t c.before.before.before.before.before.before.before.before.before.args.bytes.now c.before.before.before.before.before.before.before.before.before.args.at ≡ false
 unfolding bad_list
 in_order c = sym c.before.is-bad-list.ensures ∙ c.if4.false
 
 -- the searches, of the row's own set
-above : (c : tie.After-first-beyond) → c.first-beyond.result ≡ lowest 16 16 (λ i. bit (row_set c.before.before.before.before.before.before.before.before.before.before.before.before.args.bytes.now c.before.before.before.before.before.before.before.before.before.before.before.before.args.at) i && leb c.before.before.before.before.before.before.before.before.before.before.before.before.args.t.n i)
+above : (c : goal.After-first_beyond) → c.first-beyond.result ≡ lowest 16 16 (λ i. bit (row_set c.before.before.before.before.before.before.before.before.before.before.before.before.args.bytes.now c.before.before.before.before.before.before.before.before.before.before.before.before.args.at) i && leb c.before.before.before.before.before.before.before.before.before.before.before.before.args.t.n i)
 above c =
     let a = c.before.before.before.before.before.before.before.before.before.before.before.before.args in
     c.first-beyond.ensures ∙ ap (λ (x : ℕ). lowest 16 16 (λ i. bit x i && leb a.t.n i)) c.before.before.set_at.ensures
 
-early : (c : tie.After-first-early) → c.first-early.result ≡ lowest 16 c.before.before.before.before.before.before.before.before.before.before.before.before.before.before.args.t.n (λ i. bit (row_set c.before.before.before.before.before.before.before.before.before.before.before.before.before.before.args.bytes.now c.before.before.before.before.before.before.before.before.before.before.before.before.before.before.args.at) i && ltb 0 (wait c.before.before.before.before.before.before.before.before.before.before.before.before.before.before.args.st i))
+early : (c : goal.After-first_early) → c.first-early.result ≡ lowest 16 c.before.before.before.before.before.before.before.before.before.before.before.before.before.before.args.t.n (λ i. bit (row_set c.before.before.before.before.before.before.before.before.before.before.before.before.before.before.args.bytes.now c.before.before.before.before.before.before.before.before.before.before.before.before.before.before.args.at) i && ltb 0 (wait c.before.before.before.before.before.before.before.before.before.before.before.before.before.before.args.st i))
 early c =
     let a = c.before.before.before.before.before.before.before.before.before.before.before.before.before.before.args in
     c.first-early.ensures ∙ ap (λ (x : ℕ). lowest 16 a.t.n (λ i. bit x i && ltb 0 (wait a.st i))) c.before.before.before.before.set_at.ensures

@@ -28,7 +28,7 @@ pub returns : goal.returns
 returns c =
     let a = c.args in
     let s = c.set_at-set in
-    let h = c.Chosen-at in
+    let h = c.chosen_at-chosen in
     let m = c.advance in
     ap (λ (x : Ticked). x.state)
     (advanced a.t a.st s.result (row_set a.bytes.now a.at) _ (listed a.bytes.now a.at) m.result s.ensures h.ensures m.ensures)

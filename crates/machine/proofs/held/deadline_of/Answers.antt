@@ -4,8 +4,8 @@ use Rattle.machine.proofs.held.deadline_of.Goals as goal
 
 pub returns-in-Nothing : goal.returns-in-Nothing
 unfolding deadline_of
-returns-in-Nothing c = sym (ap deadline_of c.enum_told-1.given.1)
+returns-in-Nothing c = sym (ap deadline_of c.in-Nothing.is)
 
 pub returns-in-Live : goal.returns-in-Live
 unfolding deadline_of
-returns-in-Live c = sym (ap deadline_of c.j-1.given.1)
+returns-in-Live c = sym (ap deadline_of c.in-Live.is)

@@ -20,7 +20,7 @@ pub loop-j-preserved : goal.loop-j-preserved
 loop-j-preserved c =
     let l = c.loop-j in
     let n = c.places-count in
-    let x = c.IsPlace-in in
+    let x = c.place_in-k in
     let y = c.key in
     let ks = c.args.chosen.keys in
     let at = places_of n.result ks in

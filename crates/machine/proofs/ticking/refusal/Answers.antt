@@ -27,7 +27,7 @@ returns-then-beyond-lt16 c =
     let fit = c.fits_rows.result in
     let high = c.first_beyond-beyond in
     c.reply-then-beyond-lt16.ensures
-    ∙ no_31 fit a.phase a.named a.t.n a.waits.now (not-false _ c.if-not-fits_rows.false) c.enum_told-1.given.1 high.result
+    ∙ no_31 fit a.phase a.named a.t.n a.waits.now (not-false _ c.if-not-fits_rows.false) c.in-Running.is high.result
     (found 16 16 _ (omega arith) high.result high.ensures c.if-beyond-lt16.true)
     ∙ ap (λ (f : Bool). refusal_of f a.phase a.named a.t.n a.waits.now) c.fits_rows.ensures
 
@@ -38,7 +38,7 @@ returns-then-early-lt16 c =
     let high = c.first_beyond-beyond in
     let early = c.first_early-early in
     c.reply-then-early-lt16.ensures
-    ∙ no_33 fit a.phase a.named a.t.n a.waits.now (not-false _ c.if-not-fits_rows.false) c.enum_told-1.given.1 (found_none 16 16 _ (omega arith) high.result high.ensures c.if-beyond-lt16.false) early.result
+    ∙ no_33 fit a.phase a.named a.t.n a.waits.now (not-false _ c.if-not-fits_rows.false) c.in-Running.is (found_none 16 16 _ (omega arith) high.result high.ensures c.if-beyond-lt16.false) early.result
     (found 16 a.t.n _ c.requires early.result early.ensures c.if-early-lt16.true)
     ∙ ap (λ (f : Bool). refusal_of f a.phase a.named a.t.n a.waits.now) c.fits_rows.ensures
 
@@ -49,6 +49,6 @@ returns c =
     let high = c.first_beyond-beyond in
     let early = c.first_early-early in
     c.reply-2.ensures
-    ∙ no_none fit a.phase a.named a.t.n a.waits.now (not-false _ c.if-not-fits_rows.false) c.enum_told-1.given.1 (found_none 16 16 _ (omega arith) high.result high.ensures c.if-beyond-lt16.false)
+    ∙ no_none fit a.phase a.named a.t.n a.waits.now (not-false _ c.if-not-fits_rows.false) c.in-Running.is (found_none 16 16 _ (omega arith) high.result high.ensures c.if-beyond-lt16.false)
     (found_none 16 a.t.n _ c.requires early.result early.ensures c.if-early-lt16.false)
     ∙ ap (λ (f : Bool). refusal_of f a.phase a.named a.t.n a.waits.now) c.fits_rows.ensures

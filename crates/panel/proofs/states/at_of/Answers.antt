@@ -6,8 +6,8 @@ use Rattle.panel.proofs.states.at_of.Goals as goal
 
 pub returns-in-Running : goal.returns-in-Running
 unfolding at_of
-returns-in-Running c = sym (ap at_of c.enum_told-1.given.1)
+returns-in-Running c = sym (ap at_of c.in-Running.is)
 
 pub returns-in-Stopped : goal.returns-in-Stopped
 unfolding at_of
-returns-in-Stopped c = sym (ap at_of c.p-1.given.1)
+returns-in-Stopped c = sym (ap at_of c.in-Stopped.is)

@@ -6,8 +6,8 @@ use Rattle.panel.proofs.states.stopped_of.Goals as goal
 
 pub returns-in-Running : goal.returns-in-Running
 unfolding stopped_of
-returns-in-Running c = sym (ap stopped_of c.enum_told-1.given.1)
+returns-in-Running c = sym (ap stopped_of c.in-Running.is)
 
 pub returns-in-Stopped : goal.returns-in-Stopped
 unfolding stopped_of
-returns-in-Stopped c = sym (ap stopped_of c.p-1.given.1)
+returns-in-Stopped c = sym (ap stopped_of c.in-Stopped.is)

@@ -6,7 +6,7 @@ pub returns-in_default : goal.returns-in_default
 returns-in_default c = search line-laws
 
 pub table_lines-requires : goal.table_lines-requires
-table_lines-requires c = c.requires c.enum_told-1.given.1
+table_lines-requires c = c.requires c.in-Read.is
 
 pub returns : goal.returns
-returns c = put_got _ c.table_lines.ensures c.enum_told-1.given.1
+returns c = put_got _ c.table_lines.ensures c.in-Read.is

@@ -6,7 +6,7 @@ use Rattle.table.proofs.fields.period_at.Goals as goal
 -- T is at most 1,000,000, so four times T does not wrap
 pub overflow_mul-t : goal.overflow_mul-t
 overflow_mul-t c =
-    let r = ticks_read 1 _ _ _ _ c.ticks_at.ensures c.t-1.given.1 in
+    let r = ticks_read 1 _ _ _ _ c.ticks_at.ensures c.in-Got.is in
     let h = r.2 in
     omega arith
 

@@ -7,4 +7,4 @@ use Rattle.table.proofs.numbers.writing_number.Goals as goal
 
 pub returns-in-Refused : goal.returns-in-Refused
 unfolding writing_number
-returns-in-Refused c = c.number.ensures ∙ ap writing_number (sym c.w-1.given.1)
+returns-in-Refused c = c.number.ensures ∙ ap writing_number (sym c.in-Refused.is)

@@ -7,4 +7,4 @@ use Rattle.table.proofs.numbers.writing_place.Goals as goal
 
 pub returns-in-Refused : goal.returns-in-Refused
 unfolding writing_place
-returns-in-Refused c = c.place.ensures ∙ ap writing_place (sym c.w-in-Refused-1.given.1)
+returns-in-Refused c = c.place.ensures ∙ ap writing_place (sym c.in-Refused.is)

@@ -17,22 +17,22 @@ pub returns-in-Stop : goal.returns-in-Stop
 returns-in-Stop c =
     let a = c.args in
     let l = c.loop-u in
-    let e = costs_stop _ _ _ _ _ (a.v - (l.u + 1)) (omega arith) _ c.ticks_at.ensures _ c.o-1.given.1 ∙ l.invariant.3 in
+    let e = costs_stop _ _ _ _ _ (a.v - (l.u + 1)) (omega arith) _ c.ticks_at.ensures _ c.in-Stop.is ∙ l.invariant.3 in
     (ap (λ (r : CostsRead). r.outcome) e, ap (λ (r : CostsRead). r.costs) e)
 
 pub overflow_add-p : goal.overflow_add-p
-overflow_add-p c = omega (arith, (ticks_read _ _ _ _ _ c.ticks_at.ensures c.x-1.given.1).0)
+overflow_add-p c = omega (arith, (ticks_read _ _ _ _ _ c.ticks_at.ensures c.in-Got.is).0)
 
 pub loop-u-preserved : goal.loop-u-preserved
 loop-u-preserved c =
     let a = c.args in
     let l = c.loop-u in
-    let r = ticks_read _ _ _ _ _ c.ticks_at.ensures c.x-1.given.1 in
+    let r = ticks_read _ _ _ _ _ c.ticks_at.ensures c.in-Got.is in
     let e : a.slot + (l.u + 1) ≡ a.slot + l.u + 1 = omega arith in (
       search rules,
       omega arith,
       search rules,
-      rw e (costs_got _ _ _ _ _ _ (omega arith) _ c.ticks_at.ensures _ c.x-1.given.1 ∙ l.invariant.3),
+      rw e (costs_got _ _ _ _ _ _ (omega arith) _ c.ticks_at.ensures _ c.in-Got.is ∙ l.invariant.3),
     )
 
 pub returns : goal.returns

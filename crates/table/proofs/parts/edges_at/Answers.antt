@@ -11,10 +11,10 @@ use Prim.Native.Nat.{◌≤◌, ◌<◌, ◌+◌, ◌-◌}
 use Rattle.table.proofs.parts.edges_at.Goals as goal
 
 -- what is known where an edge was read: the place after it is within the input, and its key is below 256
-within : (c : tie.After-power invariant_loop decreases_loop) → c.before.before.before.before.before.before.loop.p + 2 ≤ length c.before.before.before.before.before.before.before.before.args.bytes.now
+within : (c : goal.After-power-bit invariant_loop decreases_loop) → c.before.before.before.before.before.before.loop.p + 2 ≤ length c.before.before.before.before.before.before.before.before.args.bytes.now
 within c = (edge_read _ _ _ _ _ _ c.before.before.before.before.edge_at.ensures c.before.before.key.given.1).0
 
-small : (c : tie.After-power invariant_loop decreases_loop) → c.before.before.key.given.0.0 < 256
+small : (c : goal.After-power-bit invariant_loop decreases_loop) → c.before.before.key.given.0.0 < 256
 small c = (edge_read _ _ _ _ _ _ c.before.before.before.before.edge_at.ensures c.before.before.key.given.1).2 c.before.before.before.before.before.before.before.before.requires.0
 
 pub loop-i-init : goal.loop-i-init
@@ -24,7 +24,7 @@ pub returns-in-Stop : goal.returns-in-Stop
 returns-in-Stop c =
     let a = c.args in
     let l = c.loop-i in
-    let r = edges_stop _ _ _ _ _ _ (a.e - (l.i + 1)) (omega arith) _ c.edge_at.ensures _ c.o-1.given.1 ∙ l.invariant.3 in
+    let r = edges_stop _ _ _ _ _ _ (a.e - (l.i + 1)) (omega arith) _ c.edge_at.ensures _ c.in-Stop.is ∙ l.invariant.3 in
     (ap (λ (x : EdgesRead). x.outcome) r, ap (λ (x : EdgesRead). x.succ) r)
 
 pub bounds-succ-from : goal.bounds-succ-from
@@ -46,7 +46,7 @@ loop-i-preserved c =
       search rules,
       within c,
       search rules,
-      edges_got _ _ _ _ _ _ _ (omega arith) _ c.edge_at.ensures _ _ c.key-1.given.1 (rw c.power-bit.ensures) ∙ l.invariant.3,
+      edges_got _ _ _ _ _ _ _ (omega arith) _ c.edge_at.ensures _ _ c.in-Got.is (rw c.power-bit.ensures) ∙ l.invariant.3,
     )
 
 pub returns : goal.returns

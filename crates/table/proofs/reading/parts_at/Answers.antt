@@ -18,7 +18,7 @@ pub edges_at-q-requires : goal.edges_at-q-requires
 edges_at-q-requires c =
     let a = c.args in
     let k = c.costs_at-o in
-    (search rules, costs_within a.bytes.now a.v (a.at + 12) (16 * a.i) a.costs.now (omega arith) (sym k.ensures.0 ∙ c.enum_told-1.given.1), refl)
+    (search rules, costs_within a.bytes.now a.v (a.at + 12) (16 * a.i) a.costs.now (omega arith) (sym k.ensures.0 ∙ c.in-Read.is), refl)
 
 pub returns-in_default-q : goal.returns-in_default-q
 unfolding no_succ
@@ -28,7 +28,7 @@ returns-in_default-q c =
     let k = c.costs_at-o in
     let q = c.edges_at-q in
     row_edges a.bytes.now a.at a.v a.e a.d a.t a.i a.costs.now g.3 g.0 g.4 g.5 k.result k.new.costs k.ensures.0 k.ensures.1
-    c.enum_told-1.given.1 q.result q.new.succ q.ensures.0 q.ensures.1 (search told_other) c.bad_task-in_default-q.result c.bad_task-in_default-q.ensures
+    c.in-Read.is q.result q.new.succ q.ensures.0 q.ensures.1 (search told_other) c.bad_task-in_default-q.result c.bad_task-in_default-q.ensures
 
 pub returns-then-is_acyclic : goal.returns-then-is_acyclic
 unfolding no_succ
@@ -39,7 +39,7 @@ returns-then-is_acyclic c =
     let q = c.edges_at-q in
     let y = c.is_acyclic in
     row_got a.bytes.now a.at a.v a.e a.d a.t a.i a.costs.now g.3 g.0 g.4 g.5 k.result k.new.costs k.ensures.0 k.ensures.1
-    c.enum_told-1.given.1 q.result q.new.succ q.ensures.0 q.ensures.1 c.enum_told-in-Read-q-1.given.1 y.result y.ensures
+    c.in-Read.is q.result q.new.succ q.ensures.0 q.ensures.1 c.in-Read-q.is y.result y.ensures
     c.if-is_acyclic.true _ refl
 
 pub returns : goal.returns
@@ -51,5 +51,5 @@ returns c =
     let q = c.edges_at-q in
     let y = c.is_acyclic in
     row_cycle a.bytes.now a.at a.v a.e a.d a.t a.i a.costs.now g.3 g.0 g.4 g.5 k.result k.new.costs k.ensures.0 k.ensures.1
-    c.enum_told-1.given.1 q.result q.new.succ q.ensures.0 q.ensures.1 c.enum_told-in-Read-q-1.given.1 y.result y.ensures
+    c.in-Read.is q.result q.new.succ q.ensures.0 q.ensures.1 c.in-Read-q.is y.result y.ensures
     c.if-is_acyclic.false c.bad_task-2.result c.bad_task-2.ensures

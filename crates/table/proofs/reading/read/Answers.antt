@@ -19,37 +19,37 @@ pub returns-in-Stop : goal.returns-in-Stop
 returns-in-Stop c = search read_refused
 
 pub overflow_cast-m : goal.overflow_cast-m
-overflow_cast-m c = omega (arith, (head_read _ _ _ c.head_at.ensures _ c.x-1.given.1).1)
+overflow_cast-m c = omega (arith, (head_read _ _ _ c.head_at.ensures _ c.in-Got.is).1)
 
 pub overflow_cast-n : goal.overflow_cast-n
-overflow_cast-n c = omega (arith, (head_read _ _ _ c.head_at.ensures _ c.x-1.given.1).2)
+overflow_cast-n c = omega (arith, (head_read _ _ _ c.head_at.ensures _ c.in-Got.is).2)
 
 pub loop-i-init : goal.loop-i-init
 unfolding no_tasks no_row zero_task no_succ
 loop-i-init c =
-    (search rules, refl, λ k h. zeros_at 256 k, rw sub-zero (table_tasks _ _ _ c.head_at.ensures _ _ c.x-1.given.1 refl))
+    (search rules, refl, λ k h. zeros_at 256 k, rw sub-zero (table_tasks _ _ _ c.head_at.ensures _ _ c.in-Got.is refl))
 
 pub task_at-r-requires : goal.task_at-r-requires
-task_at-r-requires c = let l = c.loop-i in let h = head_read _ _ _ c.head_at.ensures _ c.x-1.given.1 in (omega arith, l.invariant.1, l.invariant.2)
+task_at-r-requires c = let l = c.loop-i in let h = head_read _ _ _ c.head_at.ensures _ c.in-Got.is in (omega arith, l.invariant.1, l.invariant.2)
 
 pub returns-in_default : goal.returns-in_default
 unfolding bad_table
 returns-in_default c =
     let l = c.loop-i in
-    let n = c.x-1.given.0.0 % 256 in
+    let n = c.in-Got.x % 256 in
     let o = told_other _ c.in-Read.keys2 in
     read_stop _ (bad_table c.task_at-r.result.outcome)
     (tasks_stop _ (n - l.i) _ _ (n - (l.i + 1)) (omega arith) _ c.task_at-r.ensures.0 _ o ∙ l.invariant.3) _ o c.refusal-in_default.ensures
 
 pub bounds-table-i : goal.bounds-table-i
-bounds-table-i c = let h = head_read _ _ _ c.head_at.ensures _ c.x-1.given.1 in omega arith
+bounds-table-i c = let h = head_read _ _ _ c.head_at.ensures _ c.in-Got.is in omega arith
 
 pub loop-i-preserved : goal.loop-i-preserved
 loop-i-preserved c =
     let l = c.loop-i in
     let t = c.task_at-r in
-    let n = c.x-1.given.0.0 % 256 in
-    let g = tasks_got _ (n - l.i) _ _ (n - (l.i + 1)) (omega arith) _ t.ensures.0 l.table.m l.table.n l.table.tasks l.table.costs t.new.costs c.enum_told-1.given.1 t.ensures.1 in (
+    let n = c.in-Got.x % 256 in
+    let g = tasks_got _ (n - l.i) _ _ (n - (l.i + 1)) (omega arith) _ t.ensures.0 l.table.m l.table.n l.table.tasks l.table.costs t.new.costs c.in-Read.is t.ensures.1 in (
       search rules,
       ap length g.1 ∙ put_length _ _ _,
       zero_after _ _ _ _ l.invariant.1 l.invariant.2 g.1,

@@ -4,10 +4,10 @@ use borrow.Author.Rules.{rules}
 use Rattle.table.proofs.reading.table_at.Goals as goal
 
 pub overflow_add-at : goal.overflow_add-at
-overflow_add-at c = omega (arith, (head_read _ _ _ c.head_at.ensures _ c.head-1.given.1).0)
+overflow_add-at c = omega (arith, (head_read _ _ _ c.head_at.ensures _ c.in-Got.is).0)
 
 pub tasks_at-requires : goal.tasks_at-requires
-tasks_at-requires c = let h = head_read _ _ _ c.head_at.ensures _ c.head-1.given.1 in (omega arith, h.2)
+tasks_at-requires c = let h = head_read _ _ _ c.head_at.ensures _ c.in-Got.is in (omega arith, h.2)
 
 pub returns-in-Stop : goal.returns-in-Stop
 returns-in-Stop c = search table-laws

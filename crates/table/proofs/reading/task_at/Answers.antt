@@ -9,38 +9,38 @@ pub returns-in-Stop : goal.returns-in-Stop
 returns-in-Stop c = task_refused _ _ _ _ _ _ (search task-laws) c.bad_task.ensures c.requires.1 c.requires.2
 
 pub overflow_add-at : goal.overflow_add-at
-overflow_add-at c = omega (arith, mark_read _ _ _ _ _ c.mark_at.ensures c.enum_told-1.given.1)
+overflow_add-at c = omega (arith, mark_read _ _ _ _ _ c.mark_at.ensures c.in-Got.is)
 
 pub returns-in-Stop-byte_at : goal.returns-in-Stop-byte_at
 returns-in-Stop-byte_at c = task_refused _ _ _ _ _ _ (search task-laws) c.bad_task-in-Stop-byte_at.ensures c.requires.1 c.requires.2
 
 pub overflow_add-at-2 : goal.overflow_add-at-2
-overflow_add-at-2 c = omega (arith, (byte_read _ _ _ _ _ _ c.byte_at.ensures c.x-1.given.1).0)
+overflow_add-at-2 c = omega (arith, (byte_read _ _ _ _ _ _ c.byte_at.ensures c.in-Got-byte_at.is).0)
 
 pub returns-in-Stop-byte_at-2 : goal.returns-in-Stop-byte_at-2
 returns-in-Stop-byte_at-2 c = task_refused _ _ _ _ _ _ (search task-laws) c.bad_task-in-Stop-byte_at-2.ensures c.requires.1 c.requires.2
 
 pub overflow_add-at-3 : goal.overflow_add-at-3
-overflow_add-at-3 c = omega (arith, (byte_read _ _ _ _ _ _ c.byte_at-2.ensures c.x-in-Got-byte_at-2-1.given.1).0)
+overflow_add-at-3 c = omega (arith, (byte_read _ _ _ _ _ _ c.byte_at-2.ensures c.in-Got-byte_at-2.is).0)
 
 pub ticks_at-requires : goal.ticks_at-requires
-ticks_at-requires c = omega (arith, (byte_read _ _ _ _ _ _ c.byte_at-2.ensures c.x-in-Got-byte_at-2-1.given.1).0)
+ticks_at-requires c = omega (arith, (byte_read _ _ _ _ _ _ c.byte_at-2.ensures c.in-Got-byte_at-2.is).0)
 
 pub returns-in-Stop-ticks_at : goal.returns-in-Stop-ticks_at
 returns-in-Stop-ticks_at c = task_refused _ _ _ _ _ _ (search task-laws) c.bad_task-in-Stop-ticks_at.ensures c.requires.1 c.requires.2
 
 pub overflow_add-at-4 : goal.overflow_add-at-4
-overflow_add-at-4 c = omega (arith, (ticks_read _ _ _ _ _ c.ticks_at.ensures c.x-in-Got-ticks_at-1.given.1).0)
+overflow_add-at-4 c = omega (arith, (ticks_read _ _ _ _ _ c.ticks_at.ensures c.in-Got-ticks_at.is).0)
 
 pub period_at-requires : goal.period_at-requires
-period_at-requires c = omega (arith, (ticks_read _ _ _ _ _ c.ticks_at.ensures c.x-in-Got-ticks_at-1.given.1).0)
+period_at-requires c = omega (arith, (ticks_read _ _ _ _ _ c.ticks_at.ensures c.in-Got-ticks_at.is).0)
 
 pub parts_at-requires : goal.parts_at-requires
 parts_at-requires c =
     let g = c.requires in
-    let l = period_read _ _ _ _ _ c.period_at.ensures c.t-1.given.1 in (
-      (byte_read _ _ _ _ _ _ c.byte_at.ensures c.x-1.given.1).2,
-      (byte_read _ _ _ _ _ _ c.byte_at-2.ensures c.x-in-Got-byte_at-2-1.given.1).2,
+    let l = period_read _ _ _ _ _ c.period_at.ensures c.in-Got-period_at.is in (
+      (byte_read _ _ _ _ _ _ c.byte_at.ensures c.in-Got-byte_at.is).2,
+      (byte_read _ _ _ _ _ _ c.byte_at-2.ensures c.in-Got-byte_at-2.is).2,
       omega arith,
       g.0,
       g.1,
@@ -49,10 +49,10 @@ parts_at-requires c =
 
 pub returns-in-Stop-period_at : goal.returns-in-Stop-period_at
 returns-in-Stop-period_at c =
-    task_refused _ _ _ _ _ _ (task_t _ _ _ c.mark_at.ensures _ c.enum_told-1.given.1 _ c.byte_at.ensures _ c.x-1.given.1 _ c.byte_at-2.ensures _ c.x-in-Got-byte_at-2-1.given.1 _ c.ticks_at.ensures _ c.x-in-Got-ticks_at-1.given.1 _ c.period_at.ensures _ _ c.o-in-Stop-period_at-1.given.1 refl)
+    task_refused _ _ _ _ _ _ (task_t _ _ _ c.mark_at.ensures _ c.in-Got.is _ c.byte_at.ensures _ c.in-Got-byte_at.is _ c.byte_at-2.ensures _ c.in-Got-byte_at-2.is _ c.ticks_at.ensures _ c.in-Got-ticks_at.is _ c.period_at.ensures _ _ c.in-Stop-period_at.is refl)
     c.bad_task-in-Stop-period_at.ensures c.requires.1 c.requires.2
 
 pub returns-in-Got-period_at : goal.returns-in-Got-period_at
 returns-in-Got-period_at c =
-    task_row _ _ _ _ _ _ _ (task_parts _ _ _ c.mark_at.ensures _ c.enum_told-1.given.1 _ c.byte_at.ensures _ c.x-1.given.1 _ c.byte_at-2.ensures _ c.x-in-Got-byte_at-2-1.given.1 _ c.ticks_at.ensures _ c.x-in-Got-ticks_at-1.given.1 _ c.period_at.ensures _ _ c.t-1.given.1 refl)
+    task_row _ _ _ _ _ _ _ (task_parts _ _ _ c.mark_at.ensures _ c.in-Got.is _ c.byte_at.ensures _ c.in-Got-byte_at.is _ c.byte_at-2.ensures _ c.in-Got-byte_at-2.is _ c.ticks_at.ensures _ c.in-Got-ticks_at.is _ c.period_at.ensures _ _ c.in-Got-period_at.is refl)
     c.parts_at.ensures

@@ -34,7 +34,7 @@ loop-i-preserved c =
     let a = c.args in
     let l = c.loop-i in
     let t = c.task_at-r in
-    let g = tasks_got _ (a.n - l.i) _ _ (a.n - (l.i + 1)) (omega arith) _ t.ensures.0 a.m a.n l.tasks l.costs t.new.costs c.enum_told-1.given.1 t.ensures.1 in (
+    let g = tasks_got _ (a.n - l.i) _ _ (a.n - (l.i + 1)) (omega arith) _ t.ensures.0 a.m a.n l.tasks l.costs t.new.costs c.in-Read.is t.ensures.1 in (
       search rules,
       ap length g.1 ∙ put_length _ _ _,
       zero_after _ _ _ _ l.invariant.1 l.invariant.2 g.1,

@@ -19,7 +19,7 @@ pub returns-then-x-task : goal.returns-then-x-task
 returns-then-x-task c =
     let a = c.args in
     let r = c.read-l in
-    let e = c.enum_told-1.given.1 in
+    let e = c.in-Read.is in
     let x = c.measures-x in
     figures_past a.bytes.now r.result r.ensures a.task _ e (omega (arith, x.ensures.n_is)) c.no_figures-then-x-task.ensures
 
@@ -27,7 +27,7 @@ pub bounds-x-k : goal.bounds-x-k
 bounds-x-k c =
     let a = c.args in
     let r = c.read-l in
-    let e = c.enum_told-1.given.1 in
+    let e = c.in-Read.is in
     let x = c.measures-x in
     let h = few_held x.result (r.result.table, good_read a.bytes.now r.result r.ensures e, x.ensures) in
     omega arith
@@ -36,7 +36,7 @@ pub bounds-x-k-2 : goal.bounds-x-k-2
 bounds-x-k-2 c =
     let a = c.args in
     let r = c.read-l in
-    let e = c.enum_told-1.given.1 in
+    let e = c.in-Read.is in
     let x = c.measures-x in
     let h = few_held x.result (r.result.table, good_read a.bytes.now r.result r.ensures e, x.ensures) in
     omega arith
@@ -45,7 +45,7 @@ pub bounds-x-k-3 : goal.bounds-x-k-3
 bounds-x-k-3 c =
     let a = c.args in
     let r = c.read-l in
-    let e = c.enum_told-1.given.1 in
+    let e = c.in-Read.is in
     let x = c.measures-x in
     let h = few_held x.result (r.result.table, good_read a.bytes.now r.result r.ensures e, x.ensures) in
     omega arith
@@ -54,7 +54,7 @@ pub due_of-due-requires : goal.due_of-due-requires
 due_of-due-requires c =
     let a = c.args in
     let r = c.read-l in
-    let e = c.enum_told-1.given.1 in
+    let e = c.in-Read.is in
     let x = c.measures-x in
     let g = good_read a.bytes.now r.result r.ensures e in
     let b : a.task < r.result.table.n = omega (arith, x.ensures.n_is) in
@@ -64,7 +64,7 @@ pub returns : goal.returns
 returns c =
     let a = c.args in
     let r = c.read-l in
-    let e = c.enum_told-1.given.1 in
+    let e = c.in-Read.is in
     let x = c.measures-x in
     let g = good_read a.bytes.now r.result r.ensures e in
     let b : a.task < r.result.table.n = omega (arith, x.ensures.n_is) in
