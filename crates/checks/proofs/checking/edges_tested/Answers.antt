@@ -20,7 +20,7 @@ pub returns-in_default : goal.returns-in_default
 unfolding stopped
 returns-in_default c =
     let r = c.row_tested-r in
-    otherwise r.result.outcome stopped _ c.in-Read.keys2
+    otherwise r.result.outcome stopped _ c.in_default.not-Read
     ∙ sym (rows_next c.args.v c.args.succ c.loop-u.u c.loop-u.p r.result (omega arith) r.ensures) ∙ c.loop-u.invariant.2
 
 pub loop-u-preserved : goal.loop-u-preserved
