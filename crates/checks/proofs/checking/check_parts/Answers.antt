@@ -1,6 +1,5 @@
 use mathlib.Core.Bool.{Bool}
 use mathlib.Core.Path.{sym, ap, ◌∙◌}
-use borrow.Author.Rules.{rules}
 use Rattle.graph.specs.Words.{pick}
 use Rattle.graph.specs.Graph.{acyclic}
 use Rattle.checks.specs.Checking.{stopped}

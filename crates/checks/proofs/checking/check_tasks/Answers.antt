@@ -3,7 +3,7 @@ use Prim.Native.Nat.{◌≤◌, ◌+◌, ◌-◌, ◌*◌}
 use native.Mathlib.Nat.{sub-zero}
 use native.Mathlib.Omega.{arith}
 use borrow.Author.Rules.{rules}
-use Rattle.checks.specs.Checking.{task_tested, tasks_tested}
+use Rattle.checks.specs.Checking.{task_tested}
 use Rattle.table.specs.Memory.{task, no_task}
 use Rattle.checks.proofs.TaskTests.{task_next, tasks_stop, tasks_go, tasks_end}
 use Rattle.checks.proofs.checking.check_tasks.Goals as goal

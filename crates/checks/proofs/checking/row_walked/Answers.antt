@@ -1,9 +1,7 @@
-use mathlib.Core.Logic.{⊎_elim}
-use mathlib.Core.Path.{◌≡◌, refl, ◌∙◌}
-use Prim.Native.Nat.{◌≤◌, ◌+◌, ◌-◌, ◌*◌}
+use mathlib.Core.Path.{refl, ◌∙◌}
+use Prim.Native.Nat.{◌+◌, ◌-◌}
 use native.Mathlib.Omega.{arith}
 use borrow.Author.Rules.{rules}
-use Rattle.checks.specs.Checking.{row_keys, edges_tested}
 use Rattle.checks.proofs.TestLaws.{walk_high, walk_same, walk_pass, walk_skip, walk_end}
 use Rattle.checks.proofs.checking.row_walked.Goals as goal
 use Rattle.checks.proofs.checking.row_walked.Goals.{then-x-eq1+else-v-w+else-u-w, else-x-eq1}

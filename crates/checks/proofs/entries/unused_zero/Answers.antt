@@ -1,8 +1,6 @@
 use mathlib.Core.Bool.{false, true}
 use mathlib.Core.Path.{◌≡◌, sym, ◌∙◌}
-use Prim.Native.Nat.{ℕ, ◌≤◌, ◌<◌, ◌-◌}
 use native.Mathlib.Omega.{arith}
-use borrow.Author.Tests.{not-true, not-false}
 use borrow.Author.Rules.{rules}
 use borrow.Author.Count.{below_more}
 use Rattle.graph.proofs.Facts.{all_of}
