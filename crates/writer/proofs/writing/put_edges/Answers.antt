@@ -42,7 +42,7 @@ loop-u-preserved c =
     let e₁ : r.result ≡ l.p + 2 * length row = rw q at r.ensures.1 in
     let e₀ : r.new.buffer ≡ sets l.buffer l.p (edge_bytes row) = rw q at r.ensures.0 in (
       search rules,
-      r.auto.0 ∙ l.invariant.1,
+      r.auto.buffer ∙ l.invariant.1,
       omega arith,
       sets_then (edge_bytes row) (edge_bytes (keys_from a.v a.succ (l.u + 1))) l.buffer r.new.buffer l.p r.result e₀ (omega arith)
           ∙ ap (sets l.buffer l.p) (sym (rows_bytes a.v a.succ l.u (omega arith))) ∙ l.invariant.3,
