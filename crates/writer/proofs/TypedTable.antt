@@ -1,9 +1,9 @@
 -- The numbers of a table that a function was handed are numbers of their types.
-use mathlib.Core.List.{List, [], ◌∷◌, map}
-use mathlib.Core.Path.{◌≡◌, sym, ◌∙◌}
+use mathlib.Core.List.{List, [], ◌∷◌}
+use mathlib.Core.Path.{◌≡◌}
 use Prim.Native.Nat.{ℕ, zero, suc, ◌^◌, ◌<◌}
 use native.Mathlib.Omega.{arith}
-use lib.ListN.{length, get_or, length-map}
+use lib.ListN.{length, get_or}
 use mir.Val.{Val, Fits}
 use mir.Syntax.{w16, w32}
 use denote.Shadow.{shadow}

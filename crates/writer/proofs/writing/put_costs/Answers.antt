@@ -1,11 +1,10 @@
 use mathlib.Core.Path.{◌≡◌, refl, sym, ap, ◌∙◌}
-use Prim.Native.Nat.{ℕ, ◌≤◌, ◌+◌, ◌-◌, ◌*◌}
+use Prim.Native.Nat.{ℕ, ◌+◌}
 use native.Mathlib.Omega.{arith}
 use lib.ListN.{length, get_or}
 use lib.Seq.{sets}
 use borrow.Author.Rules.{rules}
 use Rattle.table.specs.Writing.{bytes4}
-use Rattle.writer.specs.Putting.{cost_bytes}
 use Rattle.writer.proofs.PutLaws.{sets_then, costs_from, costs_start, costs_next, costs_last, four_long}
 use Rattle.writer.proofs.writing.put_costs.Goals as goal
 

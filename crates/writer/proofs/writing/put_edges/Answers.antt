@@ -1,12 +1,12 @@
 use mathlib.Core.Path.{◌≡◌, refl, sym, ap, ◌∙◌}
 use mathlib.Core.List.{List}
-use Prim.Native.Nat.{ℕ, ◌≤◌, ◌+◌, ◌-◌, ◌*◌, ◌%◌}
+use Prim.Native.Nat.{ℕ, ◌+◌, ◌*◌, ◌%◌}
 use native.Mathlib.Omega.{arith}
 use lib.ListN.{length, get_or}
 use lib.Seq.{sets}
 use borrow.Author.Rules.{rules}
 use Rattle.table.specs.Writing.{edge_bytes}
-use Rattle.checks.specs.Checking.{row_keys, keys_of}
+use Rattle.checks.specs.Checking.{row_keys}
 use Rattle.checks.proofs.TestLaws.{keys_from, keys_start, keys_end}
 use Rattle.writer.proofs.PutLaws.{sets_then, rows_bytes, rows_long, no_edges}
 use Rattle.table.proofs.Places.{edges_long}

@@ -4,7 +4,6 @@ use Prim.Native.Nat.{ℕ, ◌%◌}
 use native.Mathlib.Omega.{arith}
 use lib.Seq.{sets}
 use lib.ListN.{length}
-use borrow.Author.Rules.{rules}
 use Rattle.checks.specs.Checking.{keys_of}
 use Rattle.checks.proofs.TestLaws.{edges_counted}
 use Rattle.writer.proofs.PutLaws.{task_long, task_put}

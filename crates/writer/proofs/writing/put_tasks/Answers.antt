@@ -1,12 +1,10 @@
 use mathlib.Core.Path.{◌≡◌, refl, sym, ap, ◌∙◌}
-use Prim.Native.Nat.{◌≤◌, ◌+◌, ◌-◌, ◌*◌}
+use Prim.Native.Nat.{◌+◌, ◌*◌}
 use native.Mathlib.Omega.{arith}
 use lib.ListN.{length, length-append}
 use lib.Seq.{sets}
 use borrow.Author.Rules.{rules}
-use Rattle.graph.specs.Words.{in_order}
 use Rattle.table.specs.Memory.{task, no_task}
-use Rattle.table.specs.Writing.{encode_task}
 use Rattle.writer.specs.Putting.{task_bytes}
 use Rattle.writer.proofs.Passed.{passed_n, passed_counts}
 use Rattle.writer.proofs.PutLaws.{sets_then, tasks_from, tasks_first, tasks_then, tasks_done}

@@ -1,10 +1,7 @@
 use mathlib.Core.Path.{◌≡◌, refl, sym, ap, ◌∙◌}
 use native.Mathlib.Omega.{arith}
 use lib.ListN.{length}
-use borrow.Author.Tests.{not-true, not-false}
-use borrow.Author.Rules.{rules}
 use Rattle.checks.specs.Checking.{checked}
-use Rattle.table.specs.Good.{Typed}
 use Rattle.checks.specs.declared.Checked.{Checked}
 use Rattle.table.specs.declared.Written.TheVariants.{Done, Room}
 use Rattle.table.specs.declared.Outcome.TheVariants.{Read}
