@@ -6,7 +6,6 @@ use lib.ListN.{length, take, drop, length-drop}
 use Rattle.text.specs.Laid.{laid}
 use Rattle.text.specs.Text.{decimal}
 use lib.Seq.{take_all}
-use borrow.Author.Rules.{rules}
 use Rattle.text.proofs.put_decimal.Goals as goal
 
 pub slice_bounds-put_bytes-end : goal.slice_bounds-put_bytes-end

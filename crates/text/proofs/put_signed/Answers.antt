@@ -3,13 +3,12 @@ use mathlib.Core.Path.{ap, ◌∙◌}
 use mathlib.Core.List.{◌∷◌}
 use Prim.Native.Nat.{◌+◌}
 use native.Mathlib.Omega.{arith}
-use borrow.Author.Rules.{rules}
 use lib.IntN.{ℤ, nat_abs}
 use lib.ListN.{length}
 use mir.Facts.{to_z-of_z}
 use Rattle.text.specs.Laid.{laid}
 use Rattle.text.specs.Text.{decimal}
-use Rattle.text.proofs.Sign.{Below, NotBelow, below, not_below, less_fits, less_read, cast_asks, signed_below, signed_not_below}
+use Rattle.text.proofs.Sign.{below, not_below, less_fits, less_read, cast_asks, signed_below, signed_not_below}
 use Rattle.text.proofs.put_signed.Goals as goal
 
 pub overflow_sub-below : goal.overflow_sub-below
