@@ -1,8 +1,8 @@
 -- For each public function: any two results that its contract allows are equal. The contract is the one that the checker reads from the source.
 use Rattle.graph.proofs.Unique.{by_definition}
 use Rattle.table.proofs.Unique.{OneResult}
-use Rattle.slots.proofs.nothing_left_lem.Kinds as nothing-left-kinds
-use Rattle.slots.proofs.nothing_left_lem.Reads as nothing-left-reads
+use Rattle.slots.proofs.nothing_left.Kinds as nothing-left-kinds
+use Rattle.slots.proofs.nothing_left.Reads as nothing-left-reads
 use Rattle.slots.proofs.work_left.Kinds as work-left-kinds
 use Rattle.slots.proofs.work_left.Reads as work-left-reads
 use Rattle.slots.proofs.unfinished.Kinds as unfinished-kinds

@@ -25,10 +25,10 @@ returns-then-s-ge64 c =
 
 pub returns-then-not-within_cost : goal.returns-then-not-within_cost
 returns-then-not-within_cost c =
-    above_cost _ _ _ _ _ _ (omega arith) (omega arith) c.if-work-eq0.false (c.if-work-work_left.false ∙ c.work_left.ensures) (sym c.within_cost.ensures ∙ not-true _ c.if-not-within_cost.true)
+    above_cost _ _ _ _ _ _ (omega arith) (omega arith) c.if-work-eq0.false (c.if-work-work_left.false ∙ c.work_left.ensures) (sym c.within_cost.ensures ∙ c.if-not-within_cost.true)
 
 pub returns : goal.returns
 returns c =
     c.whole_in.ensures
     ∙ whole_behind_lem _ _ _ _ _ _ _ c.used-v.ensures (left_in_lem _ _ (omega arith) _ c.unfinished.ensures) c.held_back-behind.ensures
-    ∙ last_clause _ _ _ _ _ _ (omega arith) (omega arith) c.if-work-eq0.false (c.if-work-work_left.false ∙ c.work_left.ensures) (sym c.within_cost.ensures ∙ not-false _ c.if-not-within_cost.false)
+    ∙ last_clause _ _ _ _ _ _ (omega arith) (omega arith) c.if-work-eq0.false (c.if-work-work_left.false ∙ c.work_left.ensures) (sym c.within_cost.ensures ∙ c.if-not-within_cost.false)

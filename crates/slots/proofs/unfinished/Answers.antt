@@ -1,9 +1,9 @@
-use mathlib.Core.Logic.{⊎_elim}
 use Prim.Native.Nat.{◌-◌}
 use native.Mathlib.Omega.{arith}
 use borrow.Author.Rules.{rules}
 use Rattle.slots.proofs.Behind.{Gathered, gathered_none, gathered_more, gathered_same, gathered_all, gathered_past}
 use Rattle.slots.proofs.unfinished.Goals as goal
+use Rattle.slots.proofs.unfinished.Goals.{then-remaining-s-ne0, else-remaining-s-ne0}
 
 -- past the sixty-four slots
 pub returns-then-s-ge64 : goal.returns-then-s-ge64
@@ -18,10 +18,10 @@ pub loop-u-preserved : goal.loop-u-preserved
 loop-u-preserved c =
     let a = c.args in
     let l = c.loop-u in
-    ⊎_elim
-    (λ w. rw w.1 (gathered_more a.remaining.now a.s l.u l.set (omega arith) l.invariant w.0.taken))
-    (λ w. rw w.1 (gathered_same a.remaining.now a.s l.u l.set (omega arith) l.invariant (omega (arith, w.0.left))))
-    c.if-remaining-s-ne0.branch
+    elim c.if-remaining-s-ne0.branch [
+      | then-remaining-s-ne0 w ↦ rw w.set-is (gathered_more a.remaining.now a.s l.u l.set (omega arith) l.invariant w.if-remaining-s-ne0.true)
+      | else-remaining-s-ne0 w ↦ rw w.set-is (gathered_same a.remaining.now a.s l.u l.set (omega arith) l.invariant (omega (arith, w.if-remaining-s-ne0.false)))
+    ]
 
 pub returns : goal.returns
 returns c =

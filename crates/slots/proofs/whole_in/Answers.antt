@@ -1,5 +1,4 @@
 use mathlib.Core.Path.{◌≡◌, refl}
-use mathlib.Core.Logic.{⊎_elim}
 use mathlib.Core.Bool.{true, ◌||◌, not}
 use Prim.Native.Nat.{◌+◌, ◌*◌, ◌-◌, ◌%◌, ◌≤◌}
 use native.Mathlib.Omega.{arith}
@@ -10,6 +9,7 @@ use lib.Dec.{eqb}
 use Rattle.graph.specs.Words.{all, bit}
 use Rattle.slots.proofs.Behind.{all_more, all_off, all_done_lem, in_short, in_whole, not_in}
 use Rattle.slots.proofs.whole_in.Goals as goal
+use Rattle.slots.proofs.whole_in.Goals.{else-set-u-eq1-via-then-set-u-eq1+else-remaining-k, else-set-u-eq1-via-else-set-u-eq1}
 
 pub loop-u-init : goal.loop-u-init
 unfolding all
@@ -22,7 +22,7 @@ returns-then-remaining-k c =
     let a = c.args in
     let x = get_or a.remaining.now (16 * a.s + l.u) 0 in
     let y = get_or a.costs.now ((16 * a.s + l.u) % 256) 0 in
-    all_off _ _ l.u (omega arith) (in_short a.set l.u x y (eq-eqb _ _ c.if-set-u-eq1.true) (eqb-false _ _ (not-true _ c.if-remaining-k.true)))
+    all_off _ _ l.u (omega arith) (in_short a.set l.u x y (eq-eqb _ _ c.if-set-u-eq1.true) c.if-remaining-k.true)
 
 pub loop-u-preserved : goal.loop-u-preserved
 unfolding bit
@@ -31,10 +31,10 @@ loop-u-preserved c =
     let a = c.args in
     let x = get_or a.remaining.now (16 * a.s + l.u) 0 in
     let y = get_or a.costs.now ((16 * a.s + l.u) % 256) 0 in
-    ⊎_elim
-    (λ w. (omega arith, all_more _ _ l.invariant.1 (in_whole a.set l.u x y (eqb-true _ _ (not-false _ w.3.left)))))
-    (λ w. (omega arith, all_more _ _ l.invariant.1 (not_in a.set l.u x y (ne_eqb _ _ w.left))))
-    c.if-set-u-eq1.branch
+    elim c.else-set-u-eq1.branch [
+      | else-set-u-eq1-via-then-set-u-eq1+else-remaining-k w ↦ (omega arith, all_more _ _ l.invariant.1 (in_whole a.set l.u x y w.if-remaining-k.false))
+      | else-set-u-eq1-via-else-set-u-eq1 w ↦ (omega arith, all_more _ _ l.invariant.1 (not_in a.set l.u x y (ne_eqb _ _ w.if-set-u-eq1.false)))
+    ]
 
 pub returns : goal.returns
 returns c = all_done_lem _ _ c.loop-u.u (omega arith) c.loop-u.invariant.1

@@ -1,8 +1,9 @@
-use Rattle.std.proofs.Common.{ℕ, ◌-◌, sym, ◌∙◌, subst, ⊎_elim, arith, rules}
+use Rattle.std.proofs.Common.{ℕ, ◌-◌, sym, ◌∙◌, subst, arith, rules}
 use lib.Bits.{bit_and}
 use Rattle.machine.proofs.Sweeping.{falls}
 use Rattle.machine.proofs.Leading.{Leads, leads_one, leads_new, leads_still, leads_all}
 use Rattle.machine.proofs.choosing.next_slot.Goals as goal
+use Rattle.machine.proofs.choosing.next_slot.Goals.{then-ranks_before, else-ranks_before}
 
 pub first_of-best-requires : goal.first_of-best-requires
 first_of-best-requires c = c.requires
@@ -26,12 +27,12 @@ loop-rest-preserved c =
     let f = c.first_of-s in
     let b = c.ranks_before in
     let left : ℕ = bit_and l.rest (l.rest - 1) in
-    ⊎_elim
-    (λ w. subst (Leads a.ticks.now a.among left) (sym w.1)
-    (leads_new a.ticks.now a.among l.rest l.best f.result l.invariant (omega arith) f.ensures.0 (sym b.ensures ∙ w.0.taken)))
-    (λ w. subst (Leads a.ticks.now a.among left) (sym w.1)
-    (leads_still a.ticks.now a.among l.rest l.best f.result l.invariant (omega arith) f.ensures.0 (sym b.ensures ∙ w.0.left)))
-    c.if-ranks_before.branch
+    elim c.if-ranks_before.branch [
+      | then-ranks_before w ↦ subst (Leads a.ticks.now a.among left) (sym w.best-is)
+    (leads_new a.ticks.now a.among l.rest l.best f.result l.invariant (omega arith) f.ensures.0 (sym b.ensures ∙ w.if-ranks_before.true))
+      | else-ranks_before w ↦ subst (Leads a.ticks.now a.among left) (sym w.best-is)
+    (leads_still a.ticks.now a.among l.rest l.best f.result l.invariant (omega arith) f.ensures.0 (sym b.ensures ∙ w.if-ranks_before.false))
+    ]
 
 pub returns : goal.returns
 returns c = let a = c.args in let l = c.loop-rest in leads_all a.ticks.now a.among l.rest l.best l.invariant (omega arith)

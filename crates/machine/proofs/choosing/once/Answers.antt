@@ -1,10 +1,10 @@
-use Rattle.std.proofs.Common.{◌≡◌, ℕ, ◌-◌, ◌%◌, ◌<◌, ◌≤◌, List, length, get_or, sym, refl, ap, ◌∙◌, ⊎_elim, arith, rules}
-use borrow.Author.Tests.{not-true, not-false}
+use Rattle.std.proofs.Common.{◌≡◌, ℕ, ◌-◌, ◌%◌, ◌<◌, ◌≤◌, List, length, get_or, sym, refl, ap, ◌∙◌, arith, rules}
 use Rattle.graph.specs.Words.{row, is_in}
 use Rattle.graph.proofs.Facts.{length_row, row_at}
 use Rattle.machine.proofs.Once.{Once, once_none, once_new, once_again, once_all}
 use Rattle.machine.proofs.choosing.once.Invariants.{numbers}
 use Rattle.machine.proofs.choosing.once.Goals as goal
+use Rattle.machine.proofs.choosing.once.Goals.{then-not-holds, else-not-holds}
 
 pub loop-j-init : goal.loop-j-init
 loop-j-init c = (search rules, once_none _ _ refl)
@@ -31,16 +31,16 @@ loop-j-preserved c =
     let b : l.j < length given = omega (arith, length_row n.result (λ j. get_or ks j 0 % 1024)) in
     let e : x ≡ get_or given l.j 0 = sym (row_at n.result (λ j. get_or ks j 0 % 1024) l.j 0 (omega arith)) in
     let z = l.invariant.1.room in
-    ⊎_elim
-    (λ w. (
+    elim c.if-not-holds.branch [
+      | then-not-holds w ↦ (
       omega arith,
-      rw (w.1, w.2) (once_new given l.j l.keys l.count l.invariant.1 x b e (omega (arith, n.ensures)) (omega arith) (sym c.holds.ensures ∙ not-true _ w.0.taken)),
-    ))
-    (λ w. (
+      rw (w.keys-is, w.count-is) (once_new given l.j l.keys l.count l.invariant.1 x b e (omega (arith, n.ensures)) (omega arith) (sym c.holds.ensures ∙ w.if-not-holds.true)),
+    )
+      | else-not-holds w ↦ (
       omega arith,
-      rw (w.1, w.2) (once_again given l.j l.keys l.count l.invariant.1 x b e (sym c.holds.ensures ∙ not-false _ w.0.left)),
-    ))
-    c.if-not-holds.branch
+      rw (w.keys-is, w.count-is) (once_again given l.j l.keys l.count l.invariant.1 x b e (sym c.holds.ensures ∙ w.if-not-holds.false)),
+    )
+    ]
 
 pub returns : goal.returns
 returns c =

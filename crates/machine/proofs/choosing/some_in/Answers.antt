@@ -1,9 +1,10 @@
-use Rattle.std.proofs.Common.{ℕ, ◌-◌, Bool, ltb, List, get_or, sym, ap, ◌∙◌, subst, ⊎_elim, arith, rules, le-ltb, lt-ltb}
+use Rattle.std.proofs.Common.{ℕ, ◌-◌, Bool, ltb, List, get_or, sym, ap, ◌∙◌, subst, arith, rules, le-ltb, lt-ltb}
 use lib.Bits.{bit_and, bit_or}
 use Rattle.machine.proofs.Sweeping.{falls}
 use Rattle.machine.proofs.Gathering.{Gathered, gathered_none, gathered_one, gathered_skip, gathered_all}
 use Rattle.machine.proofs.choosing.some_in.Invariants.{has_some}
 use Rattle.machine.proofs.choosing.some_in.Goals as goal
+use Rattle.machine.proofs.choosing.some_in.Goals.{then-sets-s-ne0, else-sets-s-ne0}
 
 pub loop-rest-init : goal.loop-rest-init
 loop-rest-init c = gathered_none (has_some c.args.sets.now) c.args.live (search rules)
@@ -18,12 +19,12 @@ loop-rest-preserved c =
     let f = c.first_of-s in
     let left : ℕ = bit_and l.rest (l.rest - 1) in
     let test = has_some a.sets.now in
-    ⊎_elim
-    (λ w. subst (Gathered test a.live left) (ap (bit_or l.among) (sym w.1.ensures) ∙ sym w.2)
-    (gathered_one test a.live l.rest l.among l.invariant (omega arith) f.result f.ensures.0 (lt-ltb 0 (get_or a.sets.now f.result 0) (let z = w.0.taken in omega arith))))
-    (λ w. subst (Gathered test a.live left) (sym w.1)
-    (gathered_skip test a.live l.rest l.among l.invariant (omega arith) f.result f.ensures.0 (le-ltb 0 (get_or a.sets.now f.result 0) (let z = w.0.left in omega arith))))
-    c.if-sets-s-ne0.branch
+    elim c.if-sets-s-ne0.branch [
+      | then-sets-s-ne0 w ↦ subst (Gathered test a.live left) (ap (bit_or l.among) (sym w.power.ensures) ∙ sym w.among-is)
+    (gathered_one test a.live l.rest l.among l.invariant (omega arith) f.result f.ensures.0 (lt-ltb 0 (get_or a.sets.now f.result 0) (let z = w.if-sets-s-ne0.true in omega arith)))
+      | else-sets-s-ne0 w ↦ subst (Gathered test a.live left) (sym w.among-is)
+    (gathered_skip test a.live l.rest l.among l.invariant (omega arith) f.result f.ensures.0 (le-ltb 0 (get_or a.sets.now f.result 0) (let z = w.if-sets-s-ne0.false in omega arith)))
+    ]
 
 pub returns : goal.returns
 returns c = let a = c.args in let l = c.loop-rest in gathered_all (has_some a.sets.now) a.live l.rest l.among l.invariant (omega arith)

@@ -1,7 +1,8 @@
-use Rattle.std.proofs.Common.{⊎_elim, arith, rules}
+use Rattle.std.proofs.Common.{arith, rules}
 use Rattle.machine.proofs.Sweeping.{falls}
 use Rattle.machine.proofs.Taking.{Closing, closing_none, closing_with, closing_without, closing_live, closing_ends, closing_work, closing_rest}
 use Rattle.machine.proofs.closing.close.Goals as goal
+use Rattle.machine.proofs.closing.close.Goals.{then-from-lt64, else-from-lt64}
 
 pub loop-rest-init : goal.loop-rest-init
 loop-rest-init c =
@@ -24,14 +25,14 @@ loop-rest-preserved c =
     let from = c.source-from in
     let s = c.first_of-s in
     let left = c.move_rest.ensures in
-    ⊎_elim
-    (λ w. closing_with a.over a.going a.deadlines.now a.remaining.now a.work.now c.slots_of-rest.result l.rest l.live l.deadlines l.remaining l.work l.invariant
+    elim c.if-from-lt64.branch [
+      | then-from-lt64 w ↦ closing_with a.over a.going a.deadlines.now a.remaining.now a.work.now c.slots_of-rest.result l.rest l.live l.deadlines l.remaining l.work l.invariant
     (omega arith) s.result from.result s.ensures.0 from.ensures.0 c.if-from-lt64.live c.if-from-lt64.deadlines _ c.if-from-lt64.work left
-    w.0.taken w.3.result w.3.ensures w.6 w.4 w.5)
-    (λ w. closing_without a.over a.going a.deadlines.now a.remaining.now a.work.now c.slots_of-rest.result l.rest l.live l.deadlines l.remaining l.work l.invariant
+    w.if-from-lt64.true w.power.result w.power.ensures w.live-is w.deadlines-is w.work-is
+      | else-from-lt64 w ↦ closing_without a.over a.going a.deadlines.now a.remaining.now a.work.now c.slots_of-rest.result l.rest l.live l.deadlines l.remaining l.work l.invariant
     (omega arith) s.result from.result s.ensures.0 from.ensures.0 c.if-from-lt64.live c.if-from-lt64.deadlines _ c.if-from-lt64.work left
-    w.0.left w.3 w.1 w.2)
-    c.if-from-lt64.branch
+    w.if-from-lt64.false w.live-is w.deadlines-is w.work-is
+    ]
 
 pub returns : goal.returns
 returns c =

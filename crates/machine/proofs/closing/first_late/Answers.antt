@@ -1,9 +1,10 @@
-use Rattle.std.proofs.Common.{ℕ, ◌-◌, Bool, eqb, List, get_or, sym, ap, ◌∙◌, subst, ⊎_elim, arith, rules, eq-eqb, ne_eqb}
+use Rattle.std.proofs.Common.{ℕ, ◌-◌, Bool, eqb, List, get_or, sym, ap, ◌∙◌, subst, arith, rules, eq-eqb, ne_eqb}
 use lib.Bits.{bit_and, bit_or}
 use Rattle.machine.proofs.Sweeping.{falls}
 use Rattle.machine.proofs.Gathering.{Gathered, gathered_none, gathered_one, gathered_skip, gathered_all, lowest_task}
 use Rattle.machine.proofs.closing.first_late.Invariants.{is_late}
 use Rattle.machine.proofs.closing.first_late.Goals as goal
+use Rattle.machine.proofs.closing.first_late.Goals.{then-deadlines-s, else-deadlines-s}
 
 pub loop-rest-init : goal.loop-rest-init
 loop-rest-init c = gathered_none (is_late c.args.clock c.args.deadlines.now) c.args.live (search rules)
@@ -18,10 +19,10 @@ loop-rest-preserved c =
     let f = c.first_of-s in
     let test = is_late a.clock a.deadlines.now in
     let after = bit_and l.rest (l.rest - 1) in
-    ⊎_elim
-    (λ w. subst (Gathered test a.live after) (sym (w.2 ∙ ap (bit_or l.set) w.1.ensures)) (gathered_one test a.live l.rest l.set l.invariant (omega arith) f.result f.ensures.0 (eq-eqb _ _ w.0.taken)))
-    (λ w. subst (Gathered test a.live after) (sym w.1) (gathered_skip test a.live l.rest l.set l.invariant (omega arith) f.result f.ensures.0 (ne_eqb _ _ w.0.left)))
-    c.if-deadlines-s.branch
+    elim c.if-deadlines-s.branch [
+      | then-deadlines-s w ↦ subst (Gathered test a.live after) (sym (w.set-is ∙ ap (bit_or l.set) w.power.ensures)) (gathered_one test a.live l.rest l.set l.invariant (omega arith) f.result f.ensures.0 (eq-eqb _ _ w.if-deadlines-s.true))
+      | else-deadlines-s w ↦ subst (Gathered test a.live after) (sym w.set-is) (gathered_skip test a.live l.rest l.set l.invariant (omega arith) f.result f.ensures.0 (ne_eqb _ _ w.if-deadlines-s.false))
+    ]
 
 pub returns : goal.returns
 returns c =

@@ -1,9 +1,10 @@
-use Rattle.std.proofs.Common.{◌≡◌, ℕ, ◌+◌, ◌-◌, ◌*◌, ◌/◌, ◌%◌, ◌≤◌, ap, ⊎_elim, arith, rules, eq-eqb, ne_eqb}
+use Rattle.std.proofs.Common.{◌≡◌, ℕ, ◌+◌, ◌-◌, ◌*◌, ◌/◌, ◌%◌, ◌≤◌, ap, arith, rules, eq-eqb, ne_eqb}
 use Rattle.graph.specs.Words.{flag, bit, sum}
 use Rattle.slots.proofs.Cases.{sum_next}
 use Rattle.machine.proofs.Gaps.{source_found, source_none}
 use Rattle.machine.proofs.closing.source.Invariants.{goes_on}
 use Rattle.machine.proofs.closing.source.Goals as goal
+use Rattle.machine.proofs.closing.source.Goals.{then-going-p-eq1, else-going-p-eq1}
 
 pub loop-p-init : goal.loop-p-init
 unfolding sum
@@ -22,14 +23,12 @@ loop-p-preserved c =
     let l = c.loop-p in
     let a = c.args in
     let n = sum_next l.p (goes_on a.going a.s) in
-    ⊎_elim
-    (λ w.
-    let e : flag (bit a.going (16 * l.p + a.s % 16)) ≡ 1 = ap flag (eq-eqb _ _ w.0.taken) in
-    (omega arith, omega (arith, w.2, w.1.left, e, n, l.invariant.1)))
-    (λ w.
-    let e : flag (bit a.going (16 * l.p + a.s % 16)) ≡ 0 = ap flag (ne_eqb _ _ w.0.left) in
-    (omega arith, omega (arith, w.1, e, n, l.invariant.1)))
-    c.if-going-p-eq1.branch
+    elim c.if-going-p-eq1.branch [
+      | then-going-p-eq1 w ↦ let e : flag (bit a.going (16 * l.p + a.s % 16)) ≡ 1 = ap flag (eq-eqb _ _ w.if-going-p-eq1.true) in
+    (omega arith, omega (arith, w.wanted-is, w.if-wanted-eq0.false, e, n, l.invariant.1))
+      | else-going-p-eq1 w ↦ let e : flag (bit a.going (16 * l.p + a.s % 16)) ≡ 0 = ap flag (ne_eqb _ _ w.if-going-p-eq1.false) in
+    (omega arith, omega (arith, w.wanted-is, e, n, l.invariant.1))
+    ]
 
 pub returns : goal.returns
 returns c =

@@ -14,11 +14,11 @@ loop-s-init c = (omega arith, refl)
 
 pub returns-then-not-slot_fits : goal.returns-then-not-slot_fits
 unfolding no_task
-returns-then-not-slot_fits c = let l = c.loop-s in all_off 64 _ l.s (omega arith) (sym c.slot_fits.ensures ∙ not-true _ c.if-not-slot_fits.true)
+returns-then-not-slot_fits c = let l = c.loop-s in all_off 64 _ l.s (omega arith) (sym c.slot_fits.ensures ∙ c.if-not-slot_fits.true)
 
 pub loop-s-preserved : goal.loop-s-preserved
 unfolding no_task
-loop-s-preserved c = let l = c.loop-s in (omega arith, all_more _ _ l.invariant.1 (sym c.slot_fits.ensures ∙ not-false _ c.if-not-slot_fits.false))
+loop-s-preserved c = let l = c.loop-s in (omega arith, all_more _ _ l.invariant.1 (sym c.slot_fits.ensures ∙ c.if-not-slot_fits.false))
 
 pub returns : goal.returns
 returns c = all_done_lem 64 _ c.loop-s.s (omega arith) c.loop-s.invariant.1

@@ -1,4 +1,4 @@
-use Rattle.std.proofs.Common.{◌≡◌, ℕ, ◌+◌, ◌-◌, ◌≤◌, Bool, List, sym, refl, ap, ◌∙◌, ap₂, ⊎_elim, arith, rules}
+use Rattle.std.proofs.Common.{◌≡◌, ℕ, ◌+◌, ◌-◌, ◌≤◌, Bool, List, sym, refl, ap, ◌∙◌, ap₂, arith, rules}
 use Rattle.graph.specs.Words.{sum, set_of}
 use Rattle.graph.proofs.Sets.{set_with, set_without}
 use Rattle.machine.specs.declared.TaskState.{TaskState}
@@ -7,6 +7,7 @@ use Rattle.machine.specs.Rows.{no_task, job_in}
 use Rattle.machine.proofs.Sweeping.{slot_room}
 use Rattle.machine.proofs.held.live_set.Invariants.{live_in}
 use Rattle.machine.proofs.held.live_set.Goals as goal
+use Rattle.machine.proofs.held.live_set.Goals.{then-is_live, else-is_live}
 
 pub loop-s-init : goal.loop-s-init
 unfolding set_of sum
@@ -20,10 +21,10 @@ unfolding no_task no_job
 loop-s-preserved c =
     let l = c.loop-s in
     let p = live_in c.args.states in
-    ⊎_elim
-    (λ w. (omega arith, w.2 ∙ ap₂ (λ (a b : ℕ). a + b) l.invariant.1 w.1.ensures ∙ sym (set_with p l.s (sym c.is_live.ensures ∙ w.0.taken))))
-    (λ w. (omega arith, w.1 ∙ l.invariant.1 ∙ sym (set_without p l.s (sym c.is_live.ensures ∙ w.0.left))))
-    c.if-is_live.branch
+    elim c.if-is_live.branch [
+      | then-is_live w ↦ (omega arith, w.set-is ∙ ap₂ (λ (a b : ℕ). a + b) l.invariant.1 w.power-member.ensures ∙ sym (set_with p l.s (sym c.is_live.ensures ∙ w.if-is_live.true)))
+      | else-is_live w ↦ (omega arith, w.set-is ∙ l.invariant.1 ∙ sym (set_without p l.s (sym c.is_live.ensures ∙ w.if-is_live.false)))
+    ]
 
 pub returns : goal.returns
 returns c = let l = c.loop-s in let e : l.s ≡ 64 = omega arith in l.invariant.1 ∙ ap (λ (n : ℕ). set_of n (live_in c.args.states)) e

@@ -1,4 +1,4 @@
-use Rattle.std.proofs.Common.{◌≡◌, ℕ, ◌-◌, ◌%◌, ◌<◌, ◌≤◌, min, List, length, get_or, sym, ap, ◌∙◌, subst, ⊎_elim, arith, rules}
+use Rattle.std.proofs.Common.{◌≡◌, ℕ, ◌-◌, ◌%◌, ◌<◌, ◌≤◌, min, List, length, get_or, sym, ap, ◌∙◌, subst, arith, rules}
 use Rattle.graph.specs.Words.{row, Distinct}
 use Rattle.graph.proofs.Facts.{length_row, row_at}
 use Rattle.machine.specs.Rows.{place_in}
@@ -6,6 +6,7 @@ use Rattle.machine.proofs.Taken.{Runs, runs_none, runs_one, runs_skip, runs_all}
 use Rattle.machine.proofs.Numbering.{places_distinct, rest_by_name, work_by_name}
 use Rattle.machine.proofs.lent.run.Invariants.{key_in, places_of}
 use Rattle.machine.proofs.lent.run.Goals as goal
+use Rattle.machine.proofs.lent.run.Goals.{then-remaining-k-ne0, else-remaining-k-ne0}
 
 key_small : (keys : List ℕ) (j : ℕ) → key_in keys j < 1024
 key_small keys j = omega arith
@@ -29,17 +30,17 @@ loop-j-preserved c =
     let here : x.result ≡ get_or at l.j 0 = x.ensures.0 ∙ ap place_in y.ensures.0 ∙ sym (row_at n.result (λ j. place_in (key_in ks j)) l.j 0 (omega arith)) in
     let once : Distinct at = places_distinct (key_in ks) (key_small ks) n.result (subst (λ (k : ℕ). Distinct (row k (key_in ks))) (sym n.ensures) c.requires.0) in
     let b : l.j < length at = omega arith in
-    ⊎_elim
-    (λ w. (
+    elim c.if-remaining-k-ne0.branch [
+      | then-remaining-k-ne0 w ↦ (
       omega arith,
-      rw (w.5, w.6) (runs_one at rest c.args.work.now l.j l.remaining l.work l.invariant.1 once x.result b here x.ensures.1 w.2.result w.4.result
-          (omega (arith, w.0.taken)) w.2.ensures w.4.ensures),
-    ))
-    (λ w. (
+      rw (w.remaining-is, w.work-is) (runs_one at rest c.args.work.now l.j l.remaining l.work l.invariant.1 once x.result b here x.ensures.1 w.less-after.result w.one_off.result
+          (omega (arith, w.if-remaining-k-ne0.true)) w.less-after.ensures w.one_off.ensures),
+    )
+      | else-remaining-k-ne0 w ↦ (
       omega arith,
-      rw (w.1, w.2) (runs_skip at rest c.args.work.now l.j l.remaining l.work l.invariant.1 once x.result b here x.ensures.1 (omega (arith, w.0.left))),
-    ))
-    c.if-remaining-k-ne0.branch
+      rw (w.remaining-is, w.work-is) (runs_skip at rest c.args.work.now l.j l.remaining l.work l.invariant.1 once x.result b here x.ensures.1 (omega (arith, w.if-remaining-k-ne0.false))),
+    )
+    ]
 
 pub returns : goal.returns
 returns c =

@@ -1,10 +1,11 @@
-use Rattle.std.proofs.Common.{ℕ, ◌-◌, ◌≤◌, List, get_or, refl, ⊎_elim, arith, rules, eq-eqb, ne_eqb}
+use Rattle.std.proofs.Common.{ℕ, ◌-◌, ◌≤◌, List, get_or, refl, arith, rules, eq-eqb, ne_eqb}
 use Rattle.graph.specs.Words.{pick, bit}
 use Rattle.table.specs.declared.Task.{Task}
 use Rattle.table.specs.Memory.{no_task, task, T}
 use Rattle.machine.proofs.Filling.{Filled, filled_none, filled_set, filled_kept, filled_all}
 use Rattle.machine.proofs.lent.wait_anew.Invariants.{wait_in}
 use Rattle.machine.proofs.lent.wait_anew.Goals as goal
+use Rattle.machine.proofs.lent.wait_anew.Goals.{then-named-i-eq1, else-named-i-eq1}
 
 pub loop-i-init : goal.loop-i-init
 loop-i-init c = (search rules, filled_none 16 0 _ _ c.requires)
@@ -15,10 +16,10 @@ loop-i-preserved c =
     let l = c.loop-i in
     let a = c.args in
     let g = wait_in a.named a.t.tasks a.waits.now in
-    ⊎_elim
-    (λ w. (omega arith, rw w.1 (filled_set 16 0 g a.waits.now l.i l.waits l.invariant.1 _ (omega arith) (rw (eq-eqb _ _ w.0.taken) refl))))
-    (λ w. (omega arith, rw w.1 (filled_kept 16 0 g a.waits.now l.i l.waits l.invariant.1 (rw (ne_eqb _ _ w.0.left) refl))))
-    c.if-named-i-eq1.branch
+    elim c.if-named-i-eq1.branch [
+      | then-named-i-eq1 w ↦ (omega arith, rw w.waits-is (filled_set 16 0 g a.waits.now l.i l.waits l.invariant.1 _ (omega arith) (rw (eq-eqb _ _ w.if-named-i-eq1.true) refl)))
+      | else-named-i-eq1 w ↦ (omega arith, rw w.waits-is (filled_kept 16 0 g a.waits.now l.i l.waits l.invariant.1 (rw (ne_eqb _ _ w.if-named-i-eq1.false) refl)))
+    ]
 
 pub returns : goal.returns
 unfolding T task

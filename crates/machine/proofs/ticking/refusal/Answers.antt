@@ -10,7 +10,7 @@ pub returns-then-not-fits_rows : goal.returns-then-not-fits_rows
 returns-then-not-fits_rows c =
     let a = c.args in
     let fit = c.fits_rows.result in
-    c.reply.ensures ∙ no_30 fit a.phase a.named a.t.n a.waits.now (not-true _ c.if-not-fits_rows.true)
+    c.reply.ensures ∙ no_30 fit a.phase a.named a.t.n a.waits.now c.if-not-fits_rows.true
     ∙ ap (λ (f : Bool). refusal_of f a.phase a.named a.t.n a.waits.now) c.fits_rows.ensures
 
 pub returns-in_default : goal.returns-in_default
@@ -18,7 +18,7 @@ returns-in_default c =
     let a = c.args in
     let fit = c.fits_rows.result in
     let p = c.enum_told-in_default-1.given in
-    c.reply-in_default.ensures ∙ no_32 fit a.phase a.named a.t.n a.waits.now (not-false _ c.if-not-fits_rows.false) p.0.0 p.1
+    c.reply-in_default.ensures ∙ no_32 fit a.phase a.named a.t.n a.waits.now c.if-not-fits_rows.false p.0.0 p.1
     ∙ ap (λ (f : Bool). refusal_of f a.phase a.named a.t.n a.waits.now) c.fits_rows.ensures
 
 pub returns-then-beyond-lt16 : goal.returns-then-beyond-lt16
@@ -27,7 +27,7 @@ returns-then-beyond-lt16 c =
     let fit = c.fits_rows.result in
     let high = c.first_beyond-beyond in
     c.reply-then-beyond-lt16.ensures
-    ∙ no_31 fit a.phase a.named a.t.n a.waits.now (not-false _ c.if-not-fits_rows.false) c.in-Running.is high.result
+    ∙ no_31 fit a.phase a.named a.t.n a.waits.now c.if-not-fits_rows.false c.in-Running.is high.result
     (found 16 16 _ (omega arith) high.result high.ensures c.if-beyond-lt16.true)
     ∙ ap (λ (f : Bool). refusal_of f a.phase a.named a.t.n a.waits.now) c.fits_rows.ensures
 
@@ -38,7 +38,7 @@ returns-then-early-lt16 c =
     let high = c.first_beyond-beyond in
     let early = c.first_early-early in
     c.reply-then-early-lt16.ensures
-    ∙ no_33 fit a.phase a.named a.t.n a.waits.now (not-false _ c.if-not-fits_rows.false) c.in-Running.is (found_none 16 16 _ (omega arith) high.result high.ensures c.if-beyond-lt16.false) early.result
+    ∙ no_33 fit a.phase a.named a.t.n a.waits.now c.if-not-fits_rows.false c.in-Running.is (found_none 16 16 _ (omega arith) high.result high.ensures c.if-beyond-lt16.false) early.result
     (found 16 a.t.n _ c.requires early.result early.ensures c.if-early-lt16.true)
     ∙ ap (λ (f : Bool). refusal_of f a.phase a.named a.t.n a.waits.now) c.fits_rows.ensures
 
@@ -49,6 +49,6 @@ returns c =
     let high = c.first_beyond-beyond in
     let early = c.first_early-early in
     c.reply-2.ensures
-    ∙ no_none fit a.phase a.named a.t.n a.waits.now (not-false _ c.if-not-fits_rows.false) c.in-Running.is (found_none 16 16 _ (omega arith) high.result high.ensures c.if-beyond-lt16.false)
+    ∙ no_none fit a.phase a.named a.t.n a.waits.now c.if-not-fits_rows.false c.in-Running.is (found_none 16 16 _ (omega arith) high.result high.ensures c.if-beyond-lt16.false)
     (found_none 16 a.t.n _ c.requires early.result early.ensures c.if-early-lt16.false)
     ∙ ap (λ (f : Bool). refusal_of f a.phase a.named a.t.n a.waits.now) c.fits_rows.ensures
