@@ -1,7 +1,6 @@
 use mir.Syntax.{w32}
 use mir.Val.{Fits}
 use mathlib.Core.Path.{◌≡◌, refl}
-use mathlib.Core.Logic.{⊎_elim}
 use Prim.Native.Nat.{ℕ, ◌+◌, ◌-◌, ◌≤◌, ◌<◌}
 use native.Mathlib.Omega.{arith}
 use lib.ListN.{get_or}
@@ -9,6 +8,7 @@ use Rattle.graph.specs.Words.{largest}
 use Rattle.sharp.proofs.Reckoned.{largest_next}
 use borrow.Author.Rules.{rules}
 use Rattle.sharp.proofs.gathering.longest_of.Goals as goal
+use Rattle.sharp.proofs.gathering.longest_of.Goals.{then-best-sum, else-best-sum}
 
 pub loop-u-init : goal.loop-u-init
 unfolding largest
@@ -25,10 +25,10 @@ loop-u-preserved c =
     let a = c.args in
     let l = c.loop-u in
     let n = largest_next l.u (λ x. get_or a.own x 0 + get_or a.tails x 0) in
-    ⊎_elim
-    (λ w. (omega arith, omega (arith, n, l.invariant.1, w.1, w.0.taken)))
-    (λ w. (omega arith, omega (arith, n, l.invariant.1, w.1, w.0.left)))
-    c.if-best-sum.branch
+    elim c.if-best-sum.branch [
+      | then-best-sum w ↦ (omega arith, omega (arith, n, l.invariant.1, w.best-is, w.if-best-sum.true))
+      | else-best-sum w ↦ (omega arith, omega (arith, n, l.invariant.1, w.best-is, w.if-best-sum.false))
+    ]
 
 pub returns : goal.returns
 returns c =

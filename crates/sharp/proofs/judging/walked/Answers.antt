@@ -1,5 +1,4 @@
 use mathlib.Core.Path.{◌≡◌, sym, ◌∙◌}
-use mathlib.Core.Logic.{⊎_elim}
 use Prim.Native.Nat.{◌-◌, ◌≤◌, ◌<◌}
 use native.Mathlib.Omega.{arith}
 use lib.IntN.{pos}
@@ -14,9 +13,10 @@ use Rattle.sharp.specs.Gathered.{Gathered}
 use Rattle.sharp.proofs.Judged.{above, few, met_negative, all_passed}
 use borrow.Author.Rules.{rules}
 use Rattle.sharp.proofs.judging.walked.Goals as goal
+use Rattle.sharp.proofs.judging.walked.Goals.{then-z-best, else-z-best}
 
 pub loop-k-init : goal.loop-k-init
-loop-k-init c = (search rules, λ t g h. none_yet (sharp_margin t) (pos 8000001), search rules)
+loop-k-init c = (search rules, λ t g h. none_yet (sharp_margin t) (pos 8000001))
 
 pub margin_for-z-requires : goal.margin_for-z-requires
 margin_for-z-requires c = (c.requires.0, omega arith)
@@ -45,18 +45,16 @@ loop-k-preserved c =
     let more : (t : Table) → GoodTable t → Gathered t c.args.costs.now c.args.tails.now c.args.x
     → (l.k < t.n) × (to_z w64 (of_z w64 z.result) ≡ sharp_margin t l.k) =
     λ t g h. let b : l.k < t.n = omega (arith, h.n_is) in (b, to_z-of_z f ∙ z.ensures t g h) in
-    ⊎_elim
-    (λ w. (
-      omega arith,
-      λ t g h. let m = more t g h in rw (w.1, w.2) (taken (sharp_margin t) (pos 8000001) t.n (above t g) l.k _ _ m.0 (l.invariant.1 t g h) _ m.1 c.if-z-lt0.false w.0.taken),
-      rw w.2 (Fits-of_z f),
-    ))
-    (λ w. (
-      omega arith,
-      λ t g h. let m = more t g h in rw (w.1, w.2) (kept (sharp_margin t) (pos 8000001) t.n (above t g) l.k _ _ m.0 (l.invariant.1 t g h) _ m.1 c.if-z-lt0.false w.0.left),
-      rw w.2 l.invariant.2,
-    ))
-    c.if-z-best.branch
+    elim c.if-z-best.branch [
+      | then-z-best w ↦ (
+        omega arith,
+        λ t g h. let m = more t g h in rw (w.task-is, w.best-is) (taken (sharp_margin t) (pos 8000001) t.n (above t g) l.k _ _ m.0 (l.invariant.1 t g h) _ m.1 c.if-z-lt0.false w.if-z-best.true),
+      )
+      | else-z-best w ↦ (
+        omega arith,
+        λ t g h. let m = more t g h in rw (w.task-is, w.best-is) (kept (sharp_margin t) (pos 8000001) t.n (above t g) l.k _ _ m.0 (l.invariant.1 t g h) _ m.1 c.if-z-lt0.false w.if-z-best.false),
+      )
+    ]
 
 pub returns : goal.returns
 returns c = λ t g h.

@@ -18,7 +18,7 @@ use Rattle.sharp.proofs.judging.walked.Given as goal
 
 abbrev pub invariant-loop-k : goal.invariant-loop-k
 invariant-loop-k l =
-    (l.k ≤ l.x.n) × ((t : Table) → GoodTable t → Gathered t l.costs l.tails l.x → SoFar (sharp_margin t) (pos 8000001) l.k l.task (to_z w64 l.best)) × Fits w64 l.best
+    (l.k ≤ l.x.n) × ((t : Table) → GoodTable t → Gathered t l.costs l.tails l.x → SoFar (sharp_margin t) (pos 8000001) l.k l.task l.best)
 
 abbrev pub decreases-loop-k : goal.decreases-loop-k
 decreases-loop-k l = l.x.n - l.k

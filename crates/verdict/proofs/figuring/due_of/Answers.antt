@@ -7,13 +7,7 @@ use borrow.Author.Rules.{rules}
 use Rattle.graph.specs.Words.{sum}
 use Rattle.verdict.specs.Verdicts.{rounded_up}
 use Rattle.verdict.proofs.Figured.{sum_next, sum_done}
-use Rattle.verdict.proofs.figuring.due_of.Reads as reads
-use Rattle.verdict.proofs.figuring.due_of.Lts as lts
-use Rattle.verdict.proofs.figuring.rounded_up.Reads as rounded-up-reads
 use Rattle.verdict.proofs.figuring.due_of.Goals as goal
-
-part : (c : lts.After-rounded-up (rounded-up-reads.Asked, rounded-up-reads.Learnt) reads.Pre reads.Post invariant_loop decreases_loop) → c.rounded-up.result * get_or c.before.before.before.args.t4 c.before.before.loop.i 0 ≤ 1000000 * 16000000
-part c = mul-le-mul c.rounded-up.ensures.1 (c.before.before.before.requires.2 c.before.before.loop.i (omega arith)).2
 
 pub loop-i-init : goal.loop-i-init
 unfolding sum
@@ -23,16 +17,21 @@ pub rounded_up-requires : goal.rounded_up-requires
 rounded_up-requires c = let h = c.requires.2 c.loop-i.i (omega arith) in (search rules, h.0, h.1)
 
 pub overflow_mul-due : goal.overflow_mul-due
-overflow_mul-due c = omega (arith, part c)
+overflow_mul-due c =
+    let part : c.rounded_up.result * get_or c.args.vols c.loop-i.i 0 ≤ 1000000 * 16000000 = mul-le-mul c.rounded_up.ensures.1 (c.requires.2 c.loop-i.i (omega arith)).2 in
+    omega (arith, part)
 
 pub overflow_add-due : goal.overflow_add-due
-overflow_add-due c = omega (arith, part c)
+overflow_add-due c =
+    let part : c.rounded_up.result * get_or c.args.vols c.loop-i.i 0 ≤ 1000000 * 16000000 = mul-le-mul c.rounded_up.ensures.1 (c.requires.2 c.loop-i.i (omega arith)).2 in
+    omega (arith, part)
 
 pub loop-i-preserved : goal.loop-i-preserved
-loop-i-preserved c = (
+loop-i-preserved c =
+    let part : c.rounded_up.result * get_or c.args.vols c.loop-i.i 0 ≤ 1000000 * 16000000 = mul-le-mul c.rounded_up.ensures.1 (c.requires.2 c.loop-i.i (omega arith)).2 in (
   search rules,
   ap₂ (λ (x y : ℕ). x + y * get_or c.args.vols c.loop-i.i 0) c.loop-i.invariant.1 c.rounded_up.ensures.0 ∙ sym (sum_next _ _),
-  omega (arith, part c),
+  omega (arith, part),
 )
 
 pub returns : goal.returns

@@ -8,9 +8,6 @@ use borrow.Author.Rules.{rules}
 use Rattle.graph.specs.Words.{sum}
 use Rattle.verdict.specs.Verdicts.{rounded_up}
 use Rattle.verdict.proofs.Figured.{sum_next, sum_done}
-use Rattle.verdict.proofs.figuring.due_of.Reads as reads
-use Rattle.verdict.proofs.figuring.due_of.Lts as lts
-use Rattle.verdict.proofs.figuring.rounded_up.Reads as rounded-up-reads
 use Rattle.verdict.proofs.figuring.due_of.Given as goal
 
 abbrev pub invariant-loop-i : goal.invariant-loop-i

@@ -15,9 +15,10 @@ use Rattle.verdict.proofs.Figured.{few_held, held_due_ready, held_due, held_marg
 use Rattle.verdict.proofs.Walk.{SoFar, none_yet, met_first, kept, taken}
 use Rattle.verdict.proofs.Judged.{above, met_negative, all_passed}
 use Rattle.verdict.proofs.judging.judged.Goals as goal
+use Rattle.verdict.proofs.judging.judged.Goals.{then-z-best, else-z-best}
 
 pub loop-k-init : goal.loop-k-init
-loop-k-init c = (search rules, λ t g h. none_yet (margin t) (pos 8000001), search rules)
+loop-k-init c = (search rules, λ t g h. none_yet (margin t) (pos 8000001))
 
 pub bounds-x-k : goal.bounds-x-k
 bounds-x-k c = let h = few_held c.args.x c.requires in omega arith
@@ -60,22 +61,17 @@ loop-k-preserved c =
     let more : (t : Table) → GoodTable t → Holds t c.args.x → (l.k < t.n) × (to_z w64 (of_z w64 z.result) ≡ margin t l.k) =
     λ t g h.
     let b : l.k < t.n = omega (arith, h.n_is) in
-    let its =
-    to_z-of_z f
-    ∙ held_margin t g l.k b c.args.x h y.result (held_due t g l.k b c.args.x h y.result y.ensures) z.result z.ensures in
-    (b, its) in
-    ⊎_elim
-    (λ w. (
-      omega arith,
-      λ t g h. let m = more t g h in rw (w.1, w.2) (taken (margin t) (pos 8000001) t.n (above t g) l.k _ _ m.0 (l.invariant.1 t g h) _ m.1 c.if-z-lt0.false w.0.taken),
-      rw w.2 (Fits-of_z f),
-    ))
-    (λ w. (
-      omega arith,
-      λ t g h. let m = more t g h in rw (w.1, w.2) (kept (margin t) (pos 8000001) t.n (above t g) l.k _ _ m.0 (l.invariant.1 t g h) _ m.1 c.if-z-lt0.false w.0.left),
-      rw w.2 l.invariant.2,
-    ))
-    c.if-z-best.branch
+    (b, to_z-of_z f ∙ held_margin t g l.k b c.args.x h y.result (held_due t g l.k b c.args.x h y.result y.ensures) z.result z.ensures) in
+    elim c.if-z-best.branch [
+      | then-z-best w ↦ (
+        omega arith,
+        λ t g h. let m = more t g h in rw (w.task-is, w.best-is) (taken (margin t) (pos 8000001) t.n (above t g) l.k _ _ m.0 (l.invariant.1 t g h) _ m.1 c.if-z-lt0.false w.if-z-best.true),
+      )
+      | else-z-best w ↦ (
+        omega arith,
+        λ t g h. let m = more t g h in rw (w.task-is, w.best-is) (kept (margin t) (pos 8000001) t.n (above t g) l.k _ _ m.0 (l.invariant.1 t g h) _ m.1 c.if-z-lt0.false w.if-z-best.false),
+      )
+    ]
 
 pub returns : goal.returns
 returns c = λ t g h.

@@ -1,4 +1,5 @@
 use mir.Syntax.{w64}
+use mir.Val.{SFits}
 use mir.Facts.{to_z-of_z}
 use Rattle.verdict.proofs.Judged.{chain_listed}
 use borrow.Author.Rules.{rules}
@@ -8,5 +9,6 @@ pub returns : goal.returns
 returns c =
     let a = c.args in
     let f = c.longest_chain-c in
-    let z = to_z-of_z {w = w64} {z = a.d.margin} (record { sfits = c.struct_told-1.given.1.1.0.1 }) in
+    let s : SFits w64 a.d.margin = search rules in
+    let z = to_z-of_z s in
     chain_listed a.d a.succ a.own f.result _ f.ensures z
