@@ -1,4 +1,4 @@
-//! Links the C face, target/staticlib/libpanel.a, which `rt staticlib panel` makes.
+//! Links the C face, target/staticlib/libpanel.a, which `. tools/face; face` makes.
 
 use std::path::Path;
 use std::process::exit;
@@ -8,7 +8,7 @@ fn main() {
     let library = folder.join("libpanel.a");
     println!("cargo:rerun-if-changed={}", library.display());
     if !library.exists() {
-        eprintln!("target/staticlib/libpanel.a is missing: make it by `rt staticlib panel`");
+        eprintln!("target/staticlib/libpanel.a is missing: make it by `. tools/face; face`");
         exit(1);
     }
     println!("cargo:rustc-link-search=native={}", folder.display());

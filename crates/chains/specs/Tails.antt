@@ -1,5 +1,5 @@
 -- The tail of a vertex: document 02, M-107.
-use Rattle.std.specs.Prelude.{◌≡◌, ◌⊎◌, Bool, true, false, List, [], ◌∷◌, ℕ, ◌≤◌, ◌<◌, get_or}
+use Rattle.std.specs.Prelude.{◌≡◌, ◌⊎◌, Bool, true, false, List, ◌∷◌, ℕ, ◌≤◌, ◌<◌, get_or}
 use Rattle.graph.specs.Words.{pick, row, largest}
 use Rattle.graph.specs.Graph.{edge, acyclic, Chain, sum_along, longest_from}
 

@@ -5,9 +5,10 @@
 ghost use Rattle.std.specs.Prelude.{◌≡◌, ◌≤◌, length};
 
 use journal::{Progress, Ruling};
-use libc::{STDIN_FILENO, STDOUT_FILENO};
 use lines::Line;
 use machine::Phase;
+use std::io;
+use std::io::Read;
 use table::{Outcome, Table};
 
 // How far the journal is judged, its rows counted from the first; how many bytes at the buffer's front are not judged yet; and
@@ -44,16 +45,16 @@ fn smaller(a: usize, b: usize) -> usize
 }
 
 // Reads the next n bytes of the input into the front of a buffer, and answers how many there were.
-fn fill(buf: &mut [u8], n: usize) -> usize {
+fn fill(input: &mut impl Read, buf: &mut [u8], n: usize) -> io::Result<usize> {
     let k = smaller(n, buf.len());
-    io::read_full(STDIN_FILENO, &mut buf[..k])
+    streams::read_full(input, &mut buf[..k])
 }
 
 // Reads on behind the first `held` bytes of a buffer, until it is full or the input ends; how many bytes it holds then.
-fn more(buf: &mut [u8], held: usize) -> usize {
+fn more(input: &mut impl Read, buf: &mut [u8], held: usize) -> io::Result<usize> {
     let k = smaller(held, buf.len());
-    let got = io::read_full(STDIN_FILENO, &mut buf[k..]);
-    k + got
+    let got = streams::read_full(input, &mut buf[k..])?;
+    Ok(k + got)
 }
 
 // Moves the bytes from a place up to n to the front of a buffer, and answers how many they are.
@@ -81,8 +82,8 @@ fn end_of(n: usize, last: bool) -> usize {
 }
 
 // One piece. A journal has fewer than 2^64 rows.
-fn step(t: Table, buf: &mut [u8], s: Stand) -> Stand {
-    let n = more(&mut *buf, s.held);
+fn step(input: &mut impl Read, t: Table, buf: &mut [u8], s: Stand) -> io::Result<Stand> {
+    let n = more(input, &mut *buf, s.held)?;
     let k = smaller(n, buf.len());
     let last = k < buf.len();
     let end = end_of(k, last);
@@ -97,15 +98,15 @@ fn step(t: Table, buf: &mut [u8], s: Stand) -> Stand {
         rows: std::num::wrapping_add_usize(before.rows, q.rows),
         state: after,
     };
-    Stand {
+    Ok(Stand {
         progress: progress,
         held: held,
         over: last || q.number != 0,
-    }
+    })
 }
 
 // Piece after piece; the count of those left is there because a loop must be shown to end.
-fn judge_input(t: Table) -> Ruling {
+fn judge_input(input: &mut impl Read, t: Table) -> io::Result<Ruling> {
     let idle = machine::zeros(0, Phase::Running);
     let first = Progress {
         number: 0,
@@ -121,7 +122,7 @@ fn judge_input(t: Table) -> Ruling {
     };
     let mut left: u64 = 18446744073709551615;
     while 0 < left {
-        s = step(t, &mut buf, s);
+        s = step(input, t, &mut buf, s)?;
         if s.over {
             left = 0;
         } else {
@@ -129,36 +130,37 @@ fn judge_input(t: Table) -> Ruling {
         }
     }
     let p = s.progress;
-    journal::rule(p)
+    Ok(journal::rule(p))
 }
 
 // The ruling on a table's bytes and the journal that follows in the input. The table is read once.
-fn ruling_on(file: &[u8]) -> Ruling {
+fn ruling_on(input: &mut impl Read, file: &[u8]) -> io::Result<Ruling> {
     let l = table::read(file);
     let o = l.outcome;
     let Outcome::Read = o else {
-        return journal::unreadable(o);
+        return Ok(journal::unreadable(o));
     };
-    judge_input(l.table)
+    judge_input(input, l.table)
 }
 
 // Writes a line.
-fn print(line: Line) -> bool {
+fn print(rt: &impl Print, line: Line) -> io::Result<()> {
     let n = smaller(line.len, 2048);
     let words = line.bytes;
-    io::write_all(STDOUT_FILENO, &words[..n])
+    rt.write_all(&words[..n])
 }
 
 // The table's bytes, as many as there are of its length. What a longer table has behind its room is not passed over: the table is
 // refused, and nothing of what follows is judged.
-fn main() {
+fn main(rt: HostRuntime) -> io::Result<()> {
+    let mut input = rt.stdin();
     let mut two = [0u8; 2];
-    io::read_full(STDIN_FILENO, &mut two);
+    streams::read_full(&mut input, &mut two)?;
     let length = lines::set_of(two) as usize;
     let mut table = room();
-    let n = fill(&mut table, length);
+    let n = fill(&mut input, &mut table, length)?;
     let k = smaller(n, 5061);
-    let r = ruling_on(&table[..k]);
+    let r = ruling_on(&mut input, &table[..k])?;
     let line = lines::ruling_line(r);
-    print(line);
+    print(&rt, line)
 }

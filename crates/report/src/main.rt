@@ -3,7 +3,7 @@
 
 ghost use Rattle.std.specs.Prelude.{◌≡◌, length};
 
-use libc::{STDIN_FILENO, STDOUT_FILENO};
+use std::io;
 
 // Room for a file: of a longer one the first 5,061 bytes have the same report (`report_prefix`, the crate reports).
 fn room() -> [u8; 5061]
@@ -13,15 +13,15 @@ fn room() -> [u8; 5061]
 }
 
 // Writes the report on a file.
-fn print(file: &[u8]) {
+fn print(rt: &impl Print, file: &[u8]) -> io::Result<()> {
     let r = reports::report_of(file);
     let n = r.len;
     let words = r.bytes;
-    io::write_all(STDOUT_FILENO, &words[..n]);
+    rt.write_all(&words[..n])
 }
 
-fn main() {
+fn main(rt: HostRuntime) -> io::Result<()> {
     let mut file = room();
-    let n = io::read_full(STDIN_FILENO, &mut file);
-    print(&file[..n]);
+    let n = streams::read_full(&mut rt.stdin(), &mut file)?;
+    print(&rt, &file[..n])
 }

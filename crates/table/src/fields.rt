@@ -48,6 +48,7 @@ pub(crate) fn byte_at(bytes: &[u8], at: usize, lo: u32, hi: u32) -> Field
 }
 
 // Four bytes, the lowest first.
+#[tactic(auto, unfolding(crate::specs::Reading::value4))]
 fn number_at(bytes: &[u8], at: usize) -> u32
     requires { at + 4 ≤ length bytes.now }
     ensures { result ≡ value4 bytes.now at }

@@ -5,6 +5,7 @@ ghost use Rattle.table.specs.Numbers.{number, place, writing_number, writing_pla
 use crate::{Outcome, Written};
 
 // Reading's number.
+#[tactic(auto, unfolding(crate::specs::Numbers::number))]
 pub fn number(o: Outcome) -> u8
     ensures { result ≡ number o }
 {
@@ -22,6 +23,7 @@ pub fn number(o: Outcome) -> u8
 }
 
 // Reading's place.
+#[tactic(auto, unfolding(crate::specs::Numbers::place))]
 pub fn place(o: Outcome) -> usize
     ensures { result ≡ place o }
 {
@@ -39,6 +41,7 @@ pub fn place(o: Outcome) -> usize
 }
 
 // Writing's number.
+#[tactic(auto, unfolding(crate::specs::Numbers::writing_number))]
 pub fn writing_number(w: Written) -> u8
     ensures { result ≡ writing_number w }
 {
@@ -51,6 +54,7 @@ pub fn writing_number(w: Written) -> u8
 }
 
 // Writing's place.
+#[tactic(auto, unfolding(crate::specs::Numbers::writing_place))]
 pub fn writing_place(w: Written) -> usize
     ensures { result ≡ writing_place w }
 {

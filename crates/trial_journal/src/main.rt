@@ -3,7 +3,10 @@
 // row, rows, and 1 if the last row missed or 0. The second program wrote both the cases and what is expected.
 #![tactic(auto)]
 
-ghost use Rattle.std.specs.Prelude.{◌≡◌, ◌≤◌, ◌<◌};
+ghost use Rattle.std.specs.Prelude.{◌≡◌, ◌≤◌, ◌<◌, IfOk};
+
+use std::io;
+use std::io::Read;
 
 // Whether there was a case, and the length of the file that the next one may take again.
 #[derive(Clone, Copy)]
@@ -30,84 +33,90 @@ fn smaller(a: usize, b: usize) -> usize
 }
 
 // A blank, and a number.
-fn print_next(x: u64) {
-    io::write_all(1, b" ");
-    io::print_decimal(1, x);
+fn print_next(rt: &impl Print, x: u64) -> io::Result<()> {
+    print!(rt; " {x}")
 }
 
 // A blank, and 1 or 0.
-fn print_flag(flag: bool) {
+fn print_flag(rt: &impl Print, flag: bool) -> io::Result<()> {
     if flag {
-        print_next(1);
+        print_next(rt, 1)
     } else {
-        print_next(0);
+        print_next(rt, 0)
     }
 }
 
 // The line of a file and a journal.
-fn answer(file: &[u8], rows: &[u8]) {
+fn answer(rt: &impl Print, file: &[u8], rows: &[u8]) -> io::Result<()> {
     let r = journal::judge(file, rows);
-    io::print_decimal(1, wide(r.number));
-    print_next(r.place as u64);
-    print_next(r.row as u64);
-    print_next(r.rows as u64);
-    print_flag(r.missed);
-    io::write_all(1, b"\n");
+    rt.print(r.number)?;
+    print_next(rt, r.place as u64)?;
+    print_next(rt, r.row as u64)?;
+    print_next(rt, r.rows as u64)?;
+    print_flag(rt, r.missed)?;
+    rt.write_all(b"\n")
 }
 
 // Reads the next n bytes of the input into the front of a buffer, and answers how many there were.
-fn fill(buf: &mut [u8], n: usize) -> usize {
+fn fill(input: &mut impl Read, buf: &mut [u8], n: usize) -> io::Result<usize> {
     let k = smaller(n, buf.len());
-    io::read_full(0, &mut buf[..k])
+    streams::read_full(input, &mut buf[..k])
 }
 
 // Reads the next file, and answers its length: that of the file before where none comes.
-fn hold(buf: &mut [u8], length: usize, held: usize) -> usize {
+fn hold(input: &mut impl Read, buf: &mut [u8], length: usize, held: usize) -> io::Result<usize> {
     if length == 0 {
-        return held;
+        return Ok(held);
     }
-    fill(buf, length)
+    fill(input, buf, length)
 }
 
 // The next two bytes, the lowest first; 65,536 where the input ends.
-fn next2() -> u64
-    ensures { result ≤ 65536 }
+fn next2(input: &mut impl Read) -> io::Result<u64>
+    ensures { IfOk result (λ x. x ≤ 65536) }
 {
     let mut two = [0u8; 2];
-    if io::read_full(0, &mut two) < 2 {
-        return 65536;
+    if streams::read_full(input, &mut two)? < 2 {
+        return Ok(65536);
     }
-    wide(two[0]) + 256 * wide(two[1])
+    Ok(wide(two[0]) + 256 * wide(two[1]))
 }
 
 // One case; `held` is the length of the file before.
-fn one(file: &mut [u8], rows: &mut [u8], held: usize) -> After {
-    let length = next2();
+fn one(
+    rt: &impl Print,
+    input: &mut impl Read,
+    file: &mut [u8],
+    rows: &mut [u8],
+    held: usize,
+) -> io::Result<After> {
+    let length = next2(input)?;
     if length == 65536 {
-        return After {
+        return Ok(After {
             more: false,
             held: held,
-        };
+        });
     }
-    let kept = hold(&mut *file, length as usize, held);
-    let count = next2() as usize;
-    let got = fill(&mut *rows, count);
+    let kept = hold(input, &mut *file, length as usize, held)?;
+    let count = next2(input)?;
+    let got = fill(input, &mut *rows, count as usize)?;
     let f = smaller(kept, file.len());
     let j = smaller(got, rows.len());
-    answer(&file[..f], &rows[..j]);
-    After {
+    answer(rt, &file[..f], &rows[..j])?;
+    Ok(After {
         more: true,
         held: kept,
-    }
+    })
 }
 
-fn main() {
-    let mut file = io::large_buffer();
-    let mut rows = io::large_buffer();
+fn main(rt: HostRuntime) -> io::Result<()> {
+    let mut input = rt.stdin();
+    let mut file = streams::large_buffer();
+    let mut rows = streams::large_buffer();
     let mut held: usize = 0;
     let mut left: usize = 1_000_000;
     while 0 < left {
-        let a = one(&mut file, &mut rows, held);
+        let a = one(&rt, &mut input, &mut file, &mut rows, held)?;
         held = a.held;
         if a.more {
             left -= 1;
@@ -115,4 +124,5 @@ fn main() {
             left = 0;
         }
     }
+    Ok(())
 }

@@ -4,6 +4,8 @@
 
 ghost use Rattle.std.specs.Prelude.{◌≡◌, ◌≤◌, ◌<◌};
 
+use std::io;
+use std::io::Read;
 use table::{Outcome, Table, Task};
 
 // A byte, with its bound.
@@ -98,45 +100,45 @@ fn smaller(a: usize, b: usize) -> usize
 }
 
 // Reads the next n bytes of the input into the front of a buffer, and answers how many there were.
-fn fill(buf: &mut [u8], n: usize) -> usize {
+fn fill(input: &mut impl Read, buf: &mut [u8], n: usize) -> io::Result<usize> {
     let k = smaller(n, buf.len());
-    io::read_full(0, &mut buf[..k])
+    streams::read_full(input, &mut buf[..k])
 }
 
 // The line of a case, whose bytes are the first n of the buffer.
-fn answer(buf: &[u8], n: usize) {
+fn answer(rt: &impl Print, buf: &[u8], n: usize) -> io::Result<()> {
     let k = smaller(n, buf.len());
     let l = table::read(&buf[..k]);
     let o = l.outcome;
     let t = l.table;
-    io::print_decimal(1, wide(table::number(o)));
-    io::write_all(1, b" ");
-    io::print_decimal(1, table::place(o) as u64);
-    io::write_all(1, b" ");
-    io::print_decimal(1, sum_of(t));
-    io::write_all(1, b"\n");
+    let number = table::number(o);
+    let place = table::place(o);
+    let sum = sum_of(t);
+    println!(rt; "{number} {place} {sum}")
 }
 
 // One case; false where the input ends.
-fn one(buf: &mut [u8]) -> bool {
+fn one(rt: &impl Print, input: &mut impl Read, buf: &mut [u8]) -> io::Result<bool> {
     let mut head = [0u8; 2];
-    if io::read_full(0, &mut head) < 2 {
-        return false;
+    if streams::read_full(input, &mut head)? < 2 {
+        return Ok(false);
     }
     let length = wide(head[0]) + 256 * wide(head[1]);
-    let got = fill(buf, length as usize);
-    answer(buf, got);
-    true
+    let got = fill(input, buf, length as usize)?;
+    answer(rt, buf, got)?;
+    Ok(true)
 }
 
-fn main() {
-    let mut buf = io::large_buffer();
+fn main(rt: HostRuntime) -> io::Result<()> {
+    let mut input = rt.stdin();
+    let mut buf = streams::large_buffer();
     let mut left: usize = 1_000_000;
     while 0 < left {
-        if one(&mut buf) {
+        if one(&rt, &mut input, &mut buf)? {
             left -= 1;
         } else {
             left = 0;
         }
     }
+    Ok(())
 }

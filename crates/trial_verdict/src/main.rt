@@ -5,8 +5,10 @@
 // The second program wrote both the cases and what is expected.
 #![tactic(auto)]
 
-ghost use Rattle.std.specs.Prelude.{◌≡◌, ◌≤◌, ◌<◌};
+ghost use Rattle.std.specs.Prelude.{◌≡◌, ◌≤◌, ◌<◌, IfOk};
 
+use std::io;
+use std::io::Read;
 use verdict::Verdict;
 
 // Whether there was a case, and the length of the file that the next one may take again.
@@ -34,29 +36,31 @@ fn smaller(a: usize, b: usize) -> usize
 }
 
 // The next byte of the input; 0 where it ends.
-fn next1() -> u8 {
+fn next1(input: &mut impl Read) -> io::Result<u8> {
     let mut b = [0u8; 1];
-    let _ = io::read_full(0, &mut b);
-    b[0]
+    streams::read_full(input, &mut b)?;
+    Ok(b[0])
 }
 
 // The next two bytes, the lowest first.
-fn next2() -> u64
-    ensures { result < 65536 }
+fn next2(input: &mut impl Read) -> io::Result<u64>
+    ensures { IfOk result (λ x. x < 65536) }
 {
-    let low = wide(next1());
-    low + 256 * wide(next1())
+    let low = wide(next1(input)?);
+    let high = wide(next1(input)?);
+    Ok(low + 256 * high)
 }
 
 // Changes the bytes that come next in the input.
-fn change(file: &mut [u8], count: u64) {
+fn change(input: &mut impl Read, file: &mut [u8], count: u64) -> io::Result<()> {
     let mut left = count;
     while 0 < left {
-        let at = next2() as usize;
-        let b = next1();
-        text::put_byte(&mut *file, at, b);
+        let at = next2(input)?;
+        let b = next1(input)?;
+        text::put_byte(&mut *file, at as usize, b);
         left -= 1;
     }
+    Ok(())
 }
 
 // The checksum of some bytes: 32-bit FNV-1a.
@@ -73,95 +77,101 @@ fn sum_of(words: &[u8]) -> u64 {
 }
 
 // A blank, and a number.
-fn print_next(x: u64) {
-    io::write_all(1, b" ");
-    io::print_decimal(1, x);
+fn print_next(rt: &impl Print, x: u64) -> io::Result<()> {
+    print!(rt; " {x}")
 }
 
 // A blank, and a number with its sign, which is laid into the buffer first.
-fn print_signed(page: &mut [u8], x: i64) {
+fn print_signed(rt: &impl Print, page: &mut [u8], x: i64) -> io::Result<()> {
     let len = text::put_signed(&mut *page, 0, x);
     let k = smaller(len, page.len());
-    io::write_all(1, b" ");
-    io::write_all(1, &page[..k]);
+    rt.write_all(b" ")?;
+    rt.write_all(&page[..k])
 }
 
 // A verdict's part of a line.
-fn answer_verdict(v: Verdict, page: &mut [u8]) {
-    io::print_decimal(1, wide(v.number));
-    print_next(v.place as u64);
-    print_next(wide(v.task));
-    print_signed(page, v.margin);
-    print_next(wide(v.count));
+fn answer_verdict(rt: &impl Print, v: Verdict, page: &mut [u8]) -> io::Result<()> {
+    rt.print(v.number)?;
+    print_next(rt, v.place as u64)?;
+    print_next(rt, wide(v.task))?;
+    print_signed(rt, page, v.margin)?;
+    print_next(rt, wide(v.count))?;
     let chain = v.chain;
-    print_next(sum_of(&chain));
+    print_next(rt, sum_of(&chain))
 }
 
 // The part of a report, whose text was laid into the buffer; the line's end.
-fn answer_report(len: usize, page: &[u8]) {
+fn answer_report(rt: &impl Print, len: usize, page: &[u8]) -> io::Result<()> {
     let k = smaller(len, page.len());
-    print_next(len as u64);
-    print_next(sum_of(&page[..k]));
-    io::write_all(1, b"\n");
+    print_next(rt, len as u64)?;
+    print_next(rt, sum_of(&page[..k]))?;
+    rt.write_all(b"\n")
 }
 
 // Both lines of a case.
-fn answer_file(file: &[u8], page: &mut [u8]) {
-    answer_verdict(verdict::verdict_of(file), &mut *page);
+fn answer_file(rt: &impl Print, file: &[u8], page: &mut [u8]) -> io::Result<()> {
+    answer_verdict(rt, verdict::verdict_of(file), &mut *page)?;
     let len = reports::report_into(file, &mut *page);
-    answer_report(len, page);
-    answer_verdict(sharp::sharp_of(file), &mut *page);
+    answer_report(rt, len, page)?;
+    answer_verdict(rt, sharp::sharp_of(file), &mut *page)?;
     let sharp_len = reports::sharp_report_into(file, &mut *page);
-    answer_report(sharp_len, page);
+    answer_report(rt, sharp_len, page)
 }
 
 // The lines of a case, whose file is the first n bytes.
-fn answer(bytes: &[u8], n: usize, page: &mut [u8]) {
+fn answer(rt: &impl Print, bytes: &[u8], n: usize, page: &mut [u8]) -> io::Result<()> {
     let k = smaller(n, bytes.len());
-    answer_file(&bytes[..k], page);
+    answer_file(rt, &bytes[..k], page)
 }
 
 // Reads the next n bytes of the input into the front of a buffer, and answers how many there were.
-fn fill(buf: &mut [u8], n: usize) -> usize {
+fn fill(input: &mut impl Read, buf: &mut [u8], n: usize) -> io::Result<usize> {
     let k = smaller(n, buf.len());
-    io::read_full(0, &mut buf[..k])
+    streams::read_full(input, &mut buf[..k])
 }
 
 // Reads the next file, and answers its length: that of the file before where none comes.
-fn hold(buf: &mut [u8], length: usize, held: usize) -> usize {
+fn hold(input: &mut impl Read, buf: &mut [u8], length: usize, held: usize) -> io::Result<usize> {
     if length == 0 {
-        return held;
+        return Ok(held);
     }
-    fill(buf, length)
+    fill(input, buf, length)
 }
 
 // One case; `held` is the length of the file before.
-fn one(bytes: &mut [u8], page: &mut [u8], held: usize) -> After {
+fn one(
+    rt: &impl Print,
+    input: &mut impl Read,
+    bytes: &mut [u8],
+    page: &mut [u8],
+    held: usize,
+) -> io::Result<After> {
     let mut head = [0u8; 2];
-    if io::read_full(0, &mut head) < 2 {
-        return After {
+    if streams::read_full(input, &mut head)? < 2 {
+        return Ok(After {
             more: false,
             held: held,
-        };
+        });
     }
     let length = (wide(head[0]) + 256 * wide(head[1])) as usize;
-    let kept = hold(&mut *bytes, length, held);
-    let count = wide(next1());
-    change(&mut *bytes, count);
-    answer(bytes, kept, page);
-    After {
+    let kept = hold(input, &mut *bytes, length, held)?;
+    let count = wide(next1(input)?);
+    change(input, &mut *bytes, count)?;
+    answer(rt, bytes, kept, page)?;
+    Ok(After {
         more: true,
         held: kept,
-    }
+    })
 }
 
-fn main() {
-    let mut bytes = io::large_buffer();
-    let mut page = io::large_buffer();
+fn main(rt: HostRuntime) -> io::Result<()> {
+    let mut input = rt.stdin();
+    let mut bytes = streams::large_buffer();
+    let mut page = streams::large_buffer();
     let mut held: usize = 0;
     let mut left: usize = 1_000_000;
     while 0 < left {
-        let a = one(&mut bytes, &mut page, held);
+        let a = one(&rt, &mut input, &mut bytes, &mut page, held)?;
         held = a.held;
         if a.more {
             left -= 1;
@@ -169,4 +179,5 @@ fn main() {
             left = 0;
         }
     }
+    Ok(())
 }

@@ -7,6 +7,8 @@ ghost use Rattle.std.specs.Prelude.{◌≡◌, ◌≤◌, ◌<◌};
 
 use lines::Line;
 use machine::State;
+use std::io;
+use std::io::Read;
 
 // How many lines were shown, and their checksum.
 #[derive(Clone, Copy)]
@@ -131,41 +133,42 @@ fn behind(rest: &[u8], input: &[u8]) -> Told {
 }
 
 // The line of a run, whose bytes are the first n of the buffer.
-fn answer(buf: &[u8], n: usize) {
+fn answer(rt: &impl Print, buf: &[u8], n: usize) -> io::Result<()> {
     let k = smaller(n, buf.len());
     let two = smaller(2, k);
     let t = behind(&buf[two..k], &buf[..k]);
-    io::print_decimal(1, t.count);
-    io::write_all(1, b" ");
-    io::print_decimal(1, t.sum);
-    io::write_all(1, b"\n");
+    let count = t.count;
+    let sum = t.sum;
+    println!(rt; "{count} {sum}")
 }
 
 // Reads the next n bytes of the input into the front of a buffer, and answers how many there were.
-fn fill(buf: &mut [u8], n: usize) -> usize {
+fn fill(input: &mut impl Read, buf: &mut [u8], n: usize) -> io::Result<usize> {
     let k = smaller(n, buf.len());
-    io::read_full(0, &mut buf[..k])
+    streams::read_full(input, &mut buf[..k])
 }
 
 // One run; false where the input ends.
-fn one(buf: &mut [u8]) -> bool {
+fn one(rt: &impl Print, input: &mut impl Read, buf: &mut [u8]) -> io::Result<bool> {
     let mut head = [0u8; 2];
-    if io::read_full(0, &mut head) < 2 {
-        return false;
+    if streams::read_full(input, &mut head)? < 2 {
+        return Ok(false);
     }
-    let got = fill(buf, lines::set_of(head) as usize);
-    answer(buf, got);
-    true
+    let got = fill(input, buf, lines::set_of(head) as usize)?;
+    answer(rt, buf, got)?;
+    Ok(true)
 }
 
-fn main() {
-    let mut buf = io::large_buffer();
+fn main(rt: HostRuntime) -> io::Result<()> {
+    let mut input = rt.stdin();
+    let mut buf = streams::large_buffer();
     let mut left: usize = 1_000_000;
     while 0 < left {
-        if one(&mut buf) {
+        if one(&rt, &mut input, &mut buf)? {
             left -= 1;
         } else {
             left = 0;
         }
     }
+    Ok(())
 }

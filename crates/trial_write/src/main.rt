@@ -4,8 +4,10 @@
 // The second program wrote both the cases and what is expected.
 #![tactic(auto)]
 
-ghost use Rattle.std.specs.Prelude.{◌≡◌, ◌≤◌, ◌<◌};
+ghost use Rattle.std.specs.Prelude.{◌≡◌, ◌≤◌, ◌<◌, IfOk};
 
+use std::io;
+use std::io::Read;
 use table::Table;
 
 // Whether there was a case, and the length of the base that the next one may take again.
@@ -33,27 +35,29 @@ fn smaller(a: usize, b: usize) -> usize
 }
 
 // The next byte of the input; 0 where it ends.
-fn next1() -> u64
-    ensures { result < 256 }
+fn next1(input: &mut impl Read) -> io::Result<u64>
+    ensures { IfOk result (λ x. x < 256) }
 {
     let mut b = [0u8; 1];
-    let _ = io::read_full(0, &mut b);
-    wide(b[0])
+    streams::read_full(input, &mut b)?;
+    Ok(wide(b[0]))
 }
 
 // The next two and four bytes, the lowest first.
-fn next2() -> u64
-    ensures { result < 65536 }
+fn next2(input: &mut impl Read) -> io::Result<u64>
+    ensures { IfOk result (λ x. x < 65536) }
 {
-    let low = next1();
-    low + 256 * next1()
+    let low = next1(input)?;
+    let high = next1(input)?;
+    Ok(low + 256 * high)
 }
 
-fn next4() -> u64
-    ensures { result < 4294967296 }
+fn next4(input: &mut impl Read) -> io::Result<u64>
+    ensures { IfOk result (λ x. x < 4294967296) }
 {
-    let low = next2();
-    low + 65536 * next2()
+    let low = next2(input)?;
+    let high = next2(input)?;
+    Ok(low + 65536 * high)
 }
 
 // A table with the field of one task changed: codes from 16 to 63.
@@ -114,16 +118,16 @@ fn with_field(t: Table, code: usize, value: u64) -> Table {
 }
 
 // A table with the changes that come next in the input.
-fn changed(t: Table, count: u64) -> Table {
+fn changed(input: &mut impl Read, t: Table, count: u64) -> io::Result<Table> {
     let mut n = t;
     let mut left = count;
     while 0 < left {
-        let code = next2();
-        let value = next4();
+        let code = next2(input)?;
+        let value = next4(input)?;
         n = with_field(n, code as usize, value);
         left -= 1;
     }
-    n
+    Ok(n)
 }
 
 // A buffer of A5.
@@ -149,16 +153,14 @@ fn sum_of(buffer: &[u8]) -> u64 {
 }
 
 // The line of a case: the table is written into the first n bytes of the buffer.
-fn answer(t: Table, buffer: &mut [u8], n: usize) {
+fn answer(rt: &impl Print, t: Table, buffer: &mut [u8], n: usize) -> io::Result<()> {
     let k = smaller(n, buffer.len());
     paint(&mut buffer[..k]);
     let w = writer::write(t, &mut buffer[..k]);
-    io::print_decimal(1, wide(table::writing_number(w)));
-    io::write_all(1, b" ");
-    io::print_decimal(1, table::writing_place(w) as u64);
-    io::write_all(1, b" ");
-    io::print_decimal(1, sum_of(&buffer[..k]));
-    io::write_all(1, b"\n");
+    let number = table::writing_number(w);
+    let place = table::writing_place(w);
+    let sum = sum_of(&buffer[..k]);
+    println!(rt; "{number} {place} {sum}")
 }
 
 // The base of a case: the table of the first n bytes.
@@ -169,46 +171,55 @@ fn base_of(bytes: &[u8], n: usize) -> Table {
 }
 
 // Reads the next n bytes of the input into the front of a buffer, and answers how many there were.
-fn fill(buf: &mut [u8], n: usize) -> usize {
+fn fill(input: &mut impl Read, buf: &mut [u8], n: usize) -> io::Result<usize> {
     let k = smaller(n, buf.len());
-    io::read_full(0, &mut buf[..k])
+    streams::read_full(input, &mut buf[..k])
 }
 
 // Reads the bytes of the next base, and answers their length: that of the base before where none come.
-fn hold(buf: &mut [u8], length: usize, held: usize) -> usize {
+fn hold(input: &mut impl Read, buf: &mut [u8], length: usize, held: usize) -> io::Result<usize> {
     if length == 0 {
-        return held;
+        return Ok(held);
     }
-    fill(buf, length)
+    fill(input, buf, length)
 }
 
 // One case; `held` is the length of the base before.
-fn one(bytes: &mut [u8], buffer: &mut [u8], held: usize) -> After {
+fn one(
+    rt: &impl Print,
+    input: &mut impl Read,
+    bytes: &mut [u8],
+    buffer: &mut [u8],
+    held: usize,
+) -> io::Result<After> {
     let mut head = [0u8; 2];
-    if io::read_full(0, &mut head) < 2 {
-        return After {
+    if streams::read_full(input, &mut head)? < 2 {
+        return Ok(After {
             more: false,
             held: held,
-        };
+        });
     }
     let length = (wide(head[0]) + 256 * wide(head[1])) as usize;
-    let kept = hold(&mut *bytes, length, held);
+    let kept = hold(input, &mut *bytes, length, held)?;
     let base = base_of(bytes, kept);
-    let t = changed(base, next1());
-    answer(t, buffer, next2() as usize);
-    After {
+    let count = next1(input)?;
+    let t = changed(input, base, count)?;
+    let n = next2(input)?;
+    answer(rt, t, buffer, n as usize)?;
+    Ok(After {
         more: true,
         held: kept,
-    }
+    })
 }
 
-fn main() {
-    let mut bytes = io::large_buffer();
-    let mut buffer = io::large_buffer();
+fn main(rt: HostRuntime) -> io::Result<()> {
+    let mut input = rt.stdin();
+    let mut bytes = streams::large_buffer();
+    let mut buffer = streams::large_buffer();
     let mut held: usize = 0;
     let mut left: usize = 1_000_000;
     while 0 < left {
-        let a = one(&mut bytes, &mut buffer, held);
+        let a = one(&rt, &mut input, &mut bytes, &mut buffer, held)?;
         held = a.held;
         if a.more {
             left -= 1;
@@ -216,4 +227,5 @@ fn main() {
             left = 0;
         }
     }
+    Ok(())
 }

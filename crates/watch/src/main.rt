@@ -4,9 +4,10 @@
 
 ghost use Rattle.std.specs.Prelude.{◌≡◌, ◌≤◌, length};
 
-use libc::{STDIN_FILENO, STDOUT_FILENO};
 use lines::Line;
 use machine::State;
+use std::io;
+use std::io::Read;
 
 // The state to go on from, if there is more to come.
 #[derive(Clone, Copy)]
@@ -33,43 +34,40 @@ fn smaller(a: usize, b: usize) -> usize
 }
 
 // Reads the next n bytes of the input into the front of a buffer, and answers how many there were.
-fn fill(buf: &mut [u8], n: usize) -> usize {
+fn fill(input: &mut impl Read, buf: &mut [u8], n: usize) -> io::Result<usize> {
     let k = smaller(n, buf.len());
-    io::read_full(STDIN_FILENO, &mut buf[..k])
+    streams::read_full(input, &mut buf[..k])
 }
 
 // Writes a line.
-fn print(line: Line) -> bool {
+fn print(rt: &impl Print, line: Line) -> io::Result<()> {
     let n = smaller(line.len, 2048);
     let words = line.bytes;
-    io::write_all(STDOUT_FILENO, &words[..n])
+    rt.write_all(&words[..n])
 }
 
 // One tick, if the input has a release set for it.
-fn step(table: &[u8], st: State) -> Next {
+fn step(rt: &impl Print, input: &mut impl Read, table: &[u8], st: State) -> io::Result<Next> {
     let mut two = [0u8; 2];
-    if io::read_full(STDIN_FILENO, &mut two) < 2 {
-        return Next {
+    if streams::read_full(input, &mut two)? < 2 {
+        return Ok(Next {
             more: false,
             state: st,
-        };
+        });
     }
     let s = lines::show_tick(table, st, lines::set_of(two));
     let line = s.line;
     let state = s.state;
-    let more = print(line);
-    Next {
-        more: more,
-        state: state,
-    }
+    print(rt, line)?;
+    Ok(Next { more: true, state })
 }
 
 // Tick after tick; the count of those left is there because a loop must be shown to end.
-fn run(table: &[u8], st: State) {
+fn run(rt: &impl Print, input: &mut impl Read, table: &[u8], st: State) -> io::Result<()> {
     let mut state = st;
     let mut left: u64 = 18446744073709551615;
     while 0 < left {
-        let n = step(table, state);
+        let n = step(rt, input, table, state)?;
         state = n.state;
         if n.more {
             left -= 1;
@@ -77,28 +75,33 @@ fn run(table: &[u8], st: State) {
             left = 0;
         }
     }
+    Ok(())
 }
 
 // Opening, and the ticks if it was not refused.
-fn watch(table: &[u8], clock: u32) {
+fn watch(rt: &impl Print, input: &mut impl Read, table: &[u8], clock: u32) -> io::Result<()> {
     let s = lines::show_opening(table, clock);
     let line = s.line;
     let state = s.state;
-    if print(line) && s.number == 0 {
-        run(table, state);
+    print(rt, line)?;
+    if s.number != 0 {
+        return Ok(());
     }
+    run(rt, input, table, state)
 }
 
 // The table's bytes, as many as there are of its length; then the clock, whose missing bytes stay 0. What a longer table has behind
 // its room is not passed over: the table is refused, and nothing of what follows is shown.
-fn main() {
+fn main(rt: HostRuntime) -> io::Result<()> {
+    let mut input = rt.stdin();
     let mut two = [0u8; 2];
-    io::read_full(STDIN_FILENO, &mut two);
+    streams::read_full(&mut input, &mut two)?;
     let length = lines::set_of(two) as usize;
     let mut table = room();
-    let n = fill(&mut table, length);
+    let n = fill(&mut input, &mut table, length)?;
     let mut four = [0u8; 4];
-    io::read_full(STDIN_FILENO, &mut four);
+    streams::read_full(&mut input, &mut four)?;
     let k = smaller(n, 5061);
-    watch(&table[..k], lines::clock_of(four));
+    let clock = lines::clock_of(four);
+    watch(&rt, &mut input, &table[..k], clock)
 }

@@ -1,33 +1,11 @@
 use mathlib.Core.Path.{ap, ◌∙◌}
 use mathlib.Core.List.{List}
-use Prim.Native.Nat.{ℕ, ◌+◌, ◌-◌, ◌≤◌, ◌<◌}
+use Prim.Native.Nat.{ℕ, ◌+◌}
 use native.Mathlib.Omega.{arith}
-use borrow.Author.Rules.{rules}
 use lib.ListN.{get_or, set}
 use Rattle.graph.specs.Words.{pick, bit, largest}
-use Rattle.chains.proofs.Placed.{Listing, largest_sum, listing_first, turn, listing_done, listing_next, listed_answer}
-use Rattle.chains.proofs.listing.first_chain.Lts as lts
-use Rattle.chains.proofs.listing.first_chain.Reads as reads
-use Rattle.chains.proofs.listing.first_with.Reads as first-with-reads
-use Rattle.chains.proofs.listing.largest_of.Reads as largest-of-reads
-use Rattle.chains.proofs.listing.sums_from.Reads as sums-from-reads
-use Rattle.chains.proofs.wide.Reads as wide-reads
+use Rattle.chains.proofs.Placed.{largest_sum, listing_first, turn, listing_done, listing_next, listed_answer}
 use Rattle.chains.proofs.listing.first_chain.Goals as goal
-
--- a turn: the vertex that was found
-abbrev Turn : Type 0
-Turn =
-    lts.After-first-with
-    (sums-from-reads.Asked, sums-from-reads.Learnt, largest-of-reads.Asked, largest-of-reads.Learnt, first-with-reads.Asked, first-with-reads.Learnt, wide-reads.Asked, wide-reads.Learnt)
-    reads.Pre reads.Post invariant_loop decreases_loop
-
-at : (c : Turn) → (c.first-with.result < 16) × (c.before.loop.count < 16) × (get_or c.before.before.before.before.args.t2 c.first-with.result 0 ≤ c.before.loop.left)
-at c =
-    let s = c.before.before.before.before in
-    let l = c.before.loop in
-    let r = turn s.args.t1 s.args.t2 s.requires l.vertices l.count l.set l.left l.invariant c.first-with.result
-    c.before.before.before.sums-from.result c.before.before.before.sums-from.ensures c.first-with.ensures in
-    (r.0, r.1, r.2)
 
 pub sums_from-sums-requires : goal.sums_from-sums-requires
 sums_from-sums-requires c = c.requires
@@ -40,25 +18,46 @@ loop-left-init c =
     (c.largest_of-sum.ensures ∙ ap (λ (l : List ℕ). largest 16 (λ w. pick (bit 65535 w) (get_or l w 0) 0)) f.ensures))
 
 pub overflow_cast-vertices : goal.overflow_cast-vertices
-overflow_cast-vertices c = omega (arith, (at c).0)
+overflow_cast-vertices c =
+    let l = c.loop-left in
+    let t = turn c.args.succ c.args.times c.requires l.vertices l.count l.set l.left l.invariant c.first_with-u.result c.sums_from-sums.result c.sums_from-sums.ensures c.first_with-u.ensures in
+    omega (arith, t.0)
 
 pub bounds-vertices-count : goal.bounds-vertices-count
-bounds-vertices-count c = (at c).1
+bounds-vertices-count c =
+    let l = c.loop-left in
+    let t = turn c.args.succ c.args.times c.requires l.vertices l.count l.set l.left l.invariant c.first_with-u.result c.sums_from-sums.result c.sums_from-sums.ensures c.first_with-u.ensures in
+    t.1
 
 pub overflow_add-count : goal.overflow_add-count
-overflow_add-count c = omega (arith, (at c).1)
+overflow_add-count c =
+    let l = c.loop-left in
+    let t = turn c.args.succ c.args.times c.requires l.vertices l.count l.set l.left l.invariant c.first_with-u.result c.sums_from-sums.result c.sums_from-sums.ensures c.first_with-u.ensures in
+    omega (arith, t.1)
 
 pub offset_bounds-times-u : goal.offset_bounds-times-u
-offset_bounds-times-u c = omega (arith, (at c).0)
+offset_bounds-times-u c =
+    let l = c.loop-left in
+    let t = turn c.args.succ c.args.times c.requires l.vertices l.count l.set l.left l.invariant c.first_with-u.result c.sums_from-sums.result c.sums_from-sums.ensures c.first_with-u.ensures in
+    omega (arith, t.0)
 
 pub bounds-times-u : goal.bounds-times-u
-bounds-times-u c = (at c).0
+bounds-times-u c =
+    let l = c.loop-left in
+    let t = turn c.args.succ c.args.times c.requires l.vertices l.count l.set l.left l.invariant c.first_with-u.result c.sums_from-sums.result c.sums_from-sums.ensures c.first_with-u.ensures in
+    t.0
 
 pub overflow_sub-left : goal.overflow_sub-left
-overflow_sub-left c = omega (arith, (at c).2, c.wide-left.ensures.0)
+overflow_sub-left c =
+    let l = c.loop-left in
+    let t = turn c.args.succ c.args.times c.requires l.vertices l.count l.set l.left l.invariant c.first_with-u.result c.sums_from-sums.result c.sums_from-sums.ensures c.first_with-u.ensures in
+    omega (arith, t.2, c.wide-left.ensures.0)
 
 pub overflow_cast-result : goal.overflow_cast-result
-overflow_cast-result c = omega (arith, (at c).1)
+overflow_cast-result c =
+    let l = c.loop-left in
+    let t = turn c.args.succ c.args.times c.requires l.vertices l.count l.set l.left l.invariant c.first_with-u.result c.sums_from-sums.result c.sums_from-sums.ensures c.first_with-u.ensures in
+    omega (arith, t.1)
 
 pub returns-then-left-eq0 : goal.returns-then-left-eq0
 returns-then-left-eq0 c =
@@ -74,13 +73,22 @@ returns-then-left-eq0 c =
     d.0 d.1
 
 pub offset_bounds-succ-u : goal.offset_bounds-succ-u
-offset_bounds-succ-u c = omega (arith, (at c).0)
+offset_bounds-succ-u c =
+    let l = c.loop-left in
+    let t = turn c.args.succ c.args.times c.requires l.vertices l.count l.set l.left l.invariant c.first_with-u.result c.sums_from-sums.result c.sums_from-sums.ensures c.first_with-u.ensures in
+    omega (arith, t.0)
 
 pub bounds-succ-u : goal.bounds-succ-u
-bounds-succ-u c = (at c).0
+bounds-succ-u c =
+    let l = c.loop-left in
+    let t = turn c.args.succ c.args.times c.requires l.vertices l.count l.set l.left l.invariant c.first_with-u.result c.sums_from-sums.result c.sums_from-sums.ensures c.first_with-u.ensures in
+    t.0
 
 pub loop-left-smaller : goal.loop-left-smaller
-loop-left-smaller c = omega (arith, (at c).1)
+loop-left-smaller c =
+    let l = c.loop-left in
+    let t = turn c.args.succ c.args.times c.requires l.vertices l.count l.set l.left l.invariant c.first_with-u.result c.sums_from-sums.result c.sums_from-sums.ensures c.first_with-u.ensures in
+    omega (arith, t.1)
 
 pub loop-left-preserved : goal.loop-left-preserved
 loop-left-preserved c =

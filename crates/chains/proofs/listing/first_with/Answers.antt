@@ -1,14 +1,13 @@
-use mathlib.Core.Path.{◌≡◌, ap, refl, ◌∙◌}
+use mathlib.Core.Path.{ap, refl, ◌∙◌}
 use mir.Val.{Fits}
 use mir.Syntax.{w16}
-use Prim.Native.Nat.{◌-◌, ◌<◌, ◌^◌}
+use Prim.Native.Nat.{◌-◌, ◌<◌}
 use native.Mathlib.Omega.{arith}
 use borrow.Author.Rules.{rules}
 use lib.ListN.{length}
 use lib.Bits.{bit_and}
-use Rattle.graph.specs.Words.{members}
 use Rattle.graph.proofs.Members.{members_first}
-use Rattle.chains.proofs.Picks.{head_with, with_is, with_end, with_here, with_more}
+use Rattle.chains.proofs.Picks.{with_is, with_end, with_here, with_more}
 use Rattle.chains.proofs.listing.first_with.Goals as goal
 
 pub loop-rest-init : goal.loop-rest-init

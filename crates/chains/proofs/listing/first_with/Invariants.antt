@@ -1,15 +1,9 @@
 -- The loop's invariant: the first of what is left is the first of all.
-use mathlib.Core.Path.{◌≡◌, ap, refl, ◌∙◌}
-use mir.Val.{Fits}
-use mir.Syntax.{w16}
-use Prim.Native.Nat.{◌-◌, ◌<◌, ◌^◌}
-use native.Mathlib.Omega.{arith}
-use borrow.Author.Rules.{rules}
+use mathlib.Core.Path.{◌≡◌}
+use Prim.Native.Nat.{◌<◌, ◌^◌}
 use lib.ListN.{length}
-use lib.Bits.{bit_and}
 use Rattle.graph.specs.Words.{members}
-use Rattle.graph.proofs.Members.{members_first}
-use Rattle.chains.proofs.Picks.{head_with, with_is, with_end, with_here, with_more}
+use Rattle.chains.proofs.Picks.{head_with}
 use Rattle.chains.proofs.listing.first_with.Given as goal
 
 abbrev pub invariant-loop-rest : goal.invariant-loop-rest

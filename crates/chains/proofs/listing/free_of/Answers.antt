@@ -1,9 +1,9 @@
-use Prim.Native.Nat.{ℕ, ◌-◌, ◌≤◌, ◌<◌, ◌^◌}
+use Prim.Native.Nat.{◌-◌, ◌<◌, ◌^◌}
 use native.Mathlib.Omega.{arith}
 use borrow.Author.Rules.{rules}
 use borrow.Author.Tests.{eq-eqb, eqb-true}
 use Rattle.graph.specs.Words.{bit}
-use Rattle.chains.proofs.Picks.{Free, some_free, free_leads, free_lower}
+use Rattle.chains.proofs.Picks.{some_free, free_leads, free_lower}
 use Rattle.chains.proofs.listing.free_of.Goals as goal
 
 pub loop-u-init : goal.loop-u-init

@@ -1,10 +1,6 @@
 -- The loop's invariant: below u there is one that leads to none of the set.
-use Prim.Native.Nat.{ℕ, ◌-◌, ◌≤◌, ◌<◌, ◌^◌}
-use native.Mathlib.Omega.{arith}
-use borrow.Author.Rules.{rules}
-use borrow.Author.Tests.{eq-eqb, eqb-true}
-use Rattle.graph.specs.Words.{bit}
-use Rattle.chains.proofs.Picks.{Free, some_free, free_leads, free_lower}
+use Prim.Native.Nat.{ℕ, ◌≤◌, ◌<◌}
+use Rattle.chains.proofs.Picks.{Free}
 use Rattle.chains.proofs.listing.free_of.Given as goal
 
 abbrev pub invariant-loop-u : goal.invariant-loop-u

@@ -1,10 +1,7 @@
-use mathlib.Core.Path.{◌≡◌, ap, ◌∙◌}
-use Prim.Native.Nat.{max}
+use mathlib.Core.Path.{ap, ◌∙◌}
 use native.Mathlib.Omega.{arith}
-use borrow.Author.Rules.{rules}
 use lib.ListN.{length}
-use Rattle.graph.specs.Words.{members}
-use Rattle.chains.proofs.Picks.{most_of, most_end, most_more, most_is}
+use Rattle.chains.proofs.Picks.{most_end, most_more, most_is}
 use Rattle.chains.proofs.listing.largest_of.Goals as goal
 
 pub loop-rest-smaller : goal.loop-rest-smaller

@@ -1,11 +1,9 @@
 -- The loop's invariant: the largest so far and of what is left is the largest of all.
-use mathlib.Core.Path.{◌≡◌, ap, ◌∙◌}
+use mathlib.Core.Path.{◌≡◌}
 use Prim.Native.Nat.{max}
-use native.Mathlib.Omega.{arith}
-use borrow.Author.Rules.{rules}
 use lib.ListN.{length}
 use Rattle.graph.specs.Words.{members}
-use Rattle.chains.proofs.Picks.{most_of, most_end, most_more, most_is}
+use Rattle.chains.proofs.Picks.{most_of}
 use Rattle.chains.proofs.listing.largest_of.Given as goal
 
 abbrev pub invariant-loop-rest : goal.invariant-loop-rest

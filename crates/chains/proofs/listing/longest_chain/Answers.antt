@@ -1,5 +1,4 @@
 use mathlib.Core.Path.{sym, ◌∙◌}
-use borrow.Author.Rules.{rules}
 use Rattle.chains.proofs.Placed.{cycle_answer}
 use Rattle.chains.proofs.listing.longest_chain.Goals as goal
 

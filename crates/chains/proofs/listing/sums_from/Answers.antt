@@ -4,7 +4,7 @@ use Prim.Native.Nat.{ℕ}
 use native.Mathlib.Omega.{arith}
 use borrow.Author.Rules.{rules}
 use lib.ListN.{get_or}
-use Rattle.chains.proofs.Backward.{Reckoned, none_reckoned, all_reckoned, reckons_small, reckoned_less, reckoned_next}
+use Rattle.chains.proofs.Backward.{none_reckoned, all_reckoned, reckons_small, reckoned_less, reckoned_next}
 use Rattle.chains.proofs.listing.sums_from.Goals as goal
 
 pub loop-left-init : goal.loop-left-init

@@ -10,13 +10,6 @@ use mathlib.Core.Path.{◌≡◌, refl, ap, ◌∙◌}
 use Prim.Native.Nat.{◌≤◌, ◌<◌, ◌+◌, ◌-◌}
 use Rattle.table.proofs.parts.edges_at.Goals as goal
 
--- what is known where an edge was read: the place after it is within the input, and its key is below 256
-within : (c : goal.After-power-bit invariant_loop decreases_loop) → c.before.before.before.before.before.before.loop.p + 2 ≤ length c.before.before.before.before.before.before.before.before.args.bytes.now
-within c = (edge_read _ _ _ _ _ _ c.before.before.before.before.edge_at.ensures c.before.before.key.given.1).0
-
-small : (c : goal.After-power-bit invariant_loop decreases_loop) → c.before.before.key.given.0.0 < 256
-small c = (edge_read _ _ _ _ _ _ c.before.before.before.before.edge_at.ensures c.before.before.key.given.1).2 c.before.before.before.before.before.before.before.before.requires.0
-
 pub loop-i-init : goal.loop-i-init
 loop-i-init c = (search rules, search rules, search rules, rw sub-zero refl)
 
@@ -28,23 +21,23 @@ returns-in-Stop c =
     (ap (λ (x : EdgesRead). x.outcome) r, ap (λ (x : EdgesRead). x.succ) r)
 
 pub bounds-succ-from : goal.bounds-succ-from
-bounds-succ-from c = omega (arith, small c)
+bounds-succ-from c = omega (arith, (edge_read _ _ _ _ _ _ c.edge_at.ensures c.in-Got.is).2 c.requires.0)
 
 pub bounds-succ-from-in-Got : goal.bounds-succ-from-in-Got
-bounds-succ-from-in-Got c = omega (arith, small c)
+bounds-succ-from-in-Got c = omega (arith, (edge_read _ _ _ _ _ _ c.edge_at.ensures c.in-Got.is).2 c.requires.0)
 
 pub overflow_add-low : goal.overflow_add-low
-overflow_add-low c = omega (arith, small c)
+overflow_add-low c = omega (arith, (edge_read _ _ _ _ _ _ c.edge_at.ensures c.in-Got.is).2 c.requires.0)
 
 pub overflow_add-p : goal.overflow_add-p
-overflow_add-p c = omega (arith, within c)
+overflow_add-p c = omega (arith, (edge_read _ _ _ _ _ _ c.edge_at.ensures c.in-Got.is).0)
 
 pub loop-i-preserved : goal.loop-i-preserved
 unfolding add_edge
 loop-i-preserved c =
     let l = c.loop-i in (
       search rules,
-      within c,
+      (edge_read _ _ _ _ _ _ c.edge_at.ensures c.in-Got.is).0,
       search rules,
       edges_got _ _ _ _ _ _ _ (omega arith) _ c.edge_at.ensures _ _ c.in-Got.is (rw c.power-bit.ensures) ∙ l.invariant.3,
     )

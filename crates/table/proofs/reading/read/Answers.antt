@@ -1,5 +1,4 @@
 use Rattle.table.proofs.TaskLaws.{tasks_end, tasks_stop, tasks_got, table_tasks, head_read, read_refused, read_stop, read_extra, read_got}
-use Rattle.table.proofs.PartLaws.{told_other}
 use Rattle.table.proofs.RowLaws.{zero_after}
 use Rattle.table.proofs.Costs.{put_length}
 use Rattle.table.proofs.Bits.{zeros_at}
@@ -37,7 +36,7 @@ unfolding bad_table
 returns-in_default c =
     let l = c.loop-i in
     let n = c.in-Got.x % 256 in
-    let o = told_other _ c.in-Read.keys2 in
+    let o = c.in_default.not-Read in
     read_stop _ (bad_table c.task_at-r.result.outcome)
     (tasks_stop _ (n - l.i) _ _ (n - (l.i + 1)) (omega arith) _ c.task_at-r.ensures.0 _ o ∙ l.invariant.3) _ o c.refusal-in_default.ensures
 

@@ -1,6 +1,5 @@
 -- What is left to read from here gives what all of it gives from the start; the row keeps its 256 places, and those to come are zero.
 use Rattle.table.proofs.TaskLaws.{tasks_end, tasks_stop, tasks_got, table_tasks, head_read, read_refused, read_stop, read_extra, read_got}
-use Rattle.table.proofs.PartLaws.{told_other}
 use Rattle.table.proofs.RowLaws.{zero_after}
 use Rattle.table.proofs.Costs.{put_length}
 use Rattle.table.proofs.Bits.{zeros_at}

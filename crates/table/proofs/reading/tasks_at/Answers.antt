@@ -1,5 +1,4 @@
 use Rattle.table.proofs.TaskLaws.{tasks_end, tasks_stop, tasks_got}
-use Rattle.table.proofs.PartLaws.{told_other}
 use Rattle.table.proofs.RowLaws.{zero_after}
 use Rattle.table.proofs.Costs.{put_length}
 use Rattle.table.proofs.Bits.{zeros_at}
@@ -26,7 +25,7 @@ returns-in_default c =
     let a = c.args in
     let l = c.loop-i in
     c.bad_table.ensures
-    ∙ tasks_stop _ _ _ _ (a.n - (l.i + 1)) (omega arith) _ c.task_at-r.ensures.0 _ (told_other _ c.in-Read.keys2)
+    ∙ tasks_stop _ _ _ _ (a.n - (l.i + 1)) (omega arith) _ c.task_at-r.ensures.0 _ c.in_default.not-Read
     ∙ l.invariant.3
 
 pub loop-i-preserved : goal.loop-i-preserved

@@ -1,6 +1,5 @@
 -- What is left to read from here gives what all of it gives from the start; the row keeps its 256 places, and those to come are zero.
 use Rattle.table.proofs.TaskLaws.{tasks_end, tasks_stop, tasks_got}
-use Rattle.table.proofs.PartLaws.{told_other}
 use Rattle.table.proofs.RowLaws.{zero_after}
 use Rattle.table.proofs.Costs.{put_length}
 use Rattle.table.proofs.Bits.{zeros_at}
@@ -20,7 +19,7 @@ invariant-loop-i l =
     (l.i ≤ l.n)
     × (length l.costs ≡ 256)
     × ZeroFrom (16 * l.i) l.costs
-    × (tasks_at l.bytes (l.n - l.i) l.i l.p (record { l.m = l.m; l.n = l.n; l.tasks = l.tasks; l.costs = l.costs }) ≡ tasks_at l.bytes l.n 0 l.at (record { l.m = l.m; l.n = l.n; l.tasks = no_tasks; l.costs = no_row }))
+    × (tasks_at l.bytes (l.n - l.i) l.i l.p (record { m = l.m; n = l.n; tasks = l.tasks; costs = l.costs }) ≡ tasks_at l.bytes l.n 0 l.at (record { m = l.m; n = l.n; tasks = no_tasks; costs = no_row }))
 
 abbrev pub decreases-loop-i : goal.decreases-loop-i
 decreases-loop-i l = l.n - l.i
