@@ -25,9 +25,9 @@ loop-p-preserved c =
     let n = sum_next l.p (goes_on a.going a.s) in
     elim c.if-going-p-eq1.branch [
       | then-going-p-eq1+else-wanted-eq0 w ↦ let e : flag (bit a.going (16 * l.p + a.s % 16)) ≡ 1 = ap flag (eq-eqb _ _ w.if-going-p-eq1.true) in
-    (omega arith, omega (arith, w.wanted-is, w.if-wanted-eq0.false, e, n, l.invariant.1))
+          (omega arith, omega (arith, w.wanted-is, w.if-wanted-eq0.false, e, n, l.invariant.1))
       | else-going-p-eq1 w ↦ let e : flag (bit a.going (16 * l.p + a.s % 16)) ≡ 0 = ap flag (ne_eqb _ _ w.if-going-p-eq1.false) in
-    (omega arith, omega (arith, w.wanted-is, e, n, l.invariant.1))
+          (omega arith, omega (arith, w.wanted-is, e, n, l.invariant.1))
     ]
 
 pub returns : goal.returns

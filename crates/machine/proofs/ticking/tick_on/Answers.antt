@@ -27,7 +27,7 @@ returns-then-no-ne0 c =
     let many : length a.st.tasks ≡ 16 = search (length_mapped, rules) in
     let its_rows = apart a.st many _ _ _ live.ensures ends.ensures waits.ensures in
     let its_refusal = refused a.t c.requires a.st _ _ _ its_rows own_choice a.named c.refusal-no.result
-        (c.refusal-no.ensures ∙ ap (λ (k : List ℕ). refusal_of (fits_by a.st.phase a.t a.t.costs live.result k waits.result a.st.work a.st.remaining) a.st.phase a.named a.t.n waits.result) c.left_of-ticks.ensures) in
+    (c.refusal-no.ensures ∙ ap (λ (k : List ℕ). refusal_of (fits_by a.st.phase a.t a.t.costs live.result k waits.result a.st.work a.st.remaining) a.st.phase a.named a.t.n waits.result) c.left_of-ticks.ensures) in
     c.refuse.ensures ∙ its_refusal.1 c.if-no-ne0.true
 
 pub release-requires : goal.release-requires
@@ -55,8 +55,7 @@ run-requires c =
     let mid = released a.t a.st a.named in
     let rest_told = mid_rest a.t a.st a.named _ _ _ _ _ _ _ _ its_rows new.ensures its_step in
     let begun_told = begun_at a.t a.st a.named _ _ _ _ _ _ _ _ its_rows new.ensures its_step in
-    let its_choice = c.own_choice-chosen.ensures mid (released_clock a.t a.st a.named) rest_told begun_told (deadline_at a.t a.st a.named _ _ _ _ _ _ _ _ its_rows new.ensures its_step) in
-    (
+    let its_choice = c.own_choice-chosen.ensures mid (released_clock a.t a.st a.named) rest_told begun_told (deadline_at a.t a.st a.named _ _ _ _ _ _ _ _ its_rows new.ensures its_step) in (
       subst Distinct (sym its_choice) (own_legal _ _).distinct,
       ap length rel.ensures.2 ∙ length_row 1024 _,
       ap length rel.ensures.3 ∙ length_row 64 _,
@@ -73,15 +72,14 @@ told-requires c =
     let many : length a.st.tasks ≡ 16 = search (length_mapped, rules) in
     let its_rows = apart a.st many _ _ _ live.ensures ends.ensures waits.ensures in
     let its_refusal = refused a.t c.requires a.st _ _ _ its_rows own_choice a.named c.refusal-no.result
-        (c.refusal-no.ensures ∙ ap (λ (k : List ℕ). refusal_of (fits_by a.st.phase a.t a.t.costs live.result k waits.result a.st.work a.st.remaining) a.st.phase a.named a.t.n waits.result) c.left_of-ticks.ensures) in
+    (c.refusal-no.ensures ∙ ap (λ (k : List ℕ). refusal_of (fits_by a.st.phase a.t a.t.costs live.result k waits.result a.st.work a.st.remaining) a.st.phase a.named a.t.n waits.result) c.left_of-ticks.ensures) in
     let new = c.fresh-fresh in
     let rel = c.release in
     let its_step : Begun a.t a.st a.named new.result ends.result waits.result rel.new.deadlines rel.new.waits rel.new.remaining rel.new.work = record { ends = rel.ensures.0; rests = rel.ensures.1; costs = rel.ensures.2; sums = rel.ensures.3 } in
     let mid = released a.t a.st a.named in
     let rest_told = mid_rest a.t a.st a.named _ _ _ _ _ _ _ _ its_rows new.ensures its_step in
     let begun_told = begun_at a.t a.st a.named _ _ _ _ _ _ _ _ its_rows new.ensures its_step in
-    let after_run = rows_worked a.t a.st a.named _ _ _ _ _ _ _ _ its_rows new.ensures its_step (listed c.own_choice-chosen.result) _ _ c.run.ensures.0 c.run.ensures.1 in
-    (
+    let after_run = rows_worked a.t a.st a.named _ _ _ _ _ _ _ _ its_rows new.ensures its_step (listed c.own_choice-chosen.result) _ _ c.run.ensures.0 c.run.ensures.1 in (
       ap length rel.ensures.0 ∙ length_row 64 _,
       ap length c.run.ensures.0 ∙ length_row 1024 _,
       ap length (c.run.ensures.1 mid rest_told) ∙ length_row 64 _,
@@ -99,7 +97,7 @@ returns c =
     let many : length a.st.tasks ≡ 16 = search (length_mapped, rules) in
     let its_rows = apart a.st many _ _ _ live.ensures ends.ensures waits.ensures in
     let its_refusal = refused a.t c.requires a.st _ _ _ its_rows own_choice a.named c.refusal-no.result
-        (c.refusal-no.ensures ∙ ap (λ (k : List ℕ). refusal_of (fits_by a.st.phase a.t a.t.costs live.result k waits.result a.st.work a.st.remaining) a.st.phase a.named a.t.n waits.result) c.left_of-ticks.ensures) in
+    (c.refusal-no.ensures ∙ ap (λ (k : List ℕ). refusal_of (fits_by a.st.phase a.t a.t.costs live.result k waits.result a.st.work a.st.remaining) a.st.phase a.named a.t.n waits.result) c.left_of-ticks.ensures) in
     let new = c.fresh-fresh in
     let rel = c.release in
     let its_step : Begun a.t a.st a.named new.result ends.result waits.result rel.new.deadlines rel.new.waits rel.new.remaining rel.new.work = record { ends = rel.ensures.0; rests = rel.ensures.1; costs = rel.ensures.2; sums = rel.ensures.3 } in
