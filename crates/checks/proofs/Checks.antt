@@ -16,7 +16,6 @@ use Rattle.graph.proofs.Facts.{clash, both_true}
 use Rattle.table.specs.declared.Table.{Table}
 use Rattle.table.specs.declared.Outcome.{Outcome}
 use Rattle.table.specs.declared.Outcome.TheVariants.{Read, Short, Mark, Range, Ticks, Order, Edge, Cycle, Extra}
-use Rattle.table.specs.declared.Written.{Written}
 use Rattle.table.specs.declared.Written.TheVariants.{Done, Refused, Unused, Room}
 use Rattle.table.specs.declared.Field.{Field}
 use Rattle.table.specs.declared.Field.TheVariants.{Stop, Got}

@@ -1,7 +1,7 @@
 -- The writer's tests 3 to 7 on the table itself, in file order, each at the place that its field has in the file, as the code makes
 -- them. Nobody has to believe them: they refuse "exactly as a reader would for the bytes that the table stands for", which is how
 -- the table's Writing.antt says it (theorem `checked_is`, proofs/Checks.antt).
-use Rattle.std.specs.Prelude.{Bool, ◌&&◌, ◌||◌, not, List, [], ◌∷◌, ◌++◌, ℕ, zero, suc, ◌+◌, ◌*◌, ◌/◌, ◌%◌, length, get_or, ltb, eqb}
+use Rattle.std.specs.Prelude.{Bool, ◌&&◌, ◌||◌, not, List, [], ◌∷◌, ℕ, zero, suc, ◌+◌, ◌*◌, ◌/◌, ◌%◌, length, get_or, ltb, eqb}
 use Rattle.graph.specs.Words.{pick, all, row, also_if, in_order}
 use Rattle.graph.specs.Graph.{acyclic}
 use Rattle.table.specs.declared.Task.{Task}

@@ -1,7 +1,5 @@
 -- The numbers of an answer that a function was handed are numbers of their types.
-use mathlib.Core.List.{List, [], ◌∷◌, map}
-use mathlib.Core.Path.{sym, ◌∙◌}
-use lib.ListN.{length-map}
+use mathlib.Core.List.{List, [], ◌∷◌}
 use mir.Val.{Val}
 use denote.Shadow.{shadow}
 use denote.Array.{each}
@@ -12,7 +10,7 @@ use Rattle.machine.specs.contracts.Answer as answer-type
 use Rattle.lines.proofs.Length.{SmallTriples, TypedAnswer}
 
 abbrev AllTold : List Triple → List Val → Type 0
-AllTold l us = shadow (each (triple-type.the_field).row.Denot (triple-type.the_field).row.own_val (map (triple-type.the_field).into l) us)
+AllTold l us = shadow (each (triple-type.the_row).Denot (triple-type.the_row).own_val l us)
 
 all_small : (l : List Triple) (us : List Val) → AllTold l us → SmallTriples l
 unfolding SmallTriples
@@ -28,6 +26,6 @@ typed_answer a us p =
     record {
       number_byte = r.1.1.0.1;
       task_byte = r.1.1.1.1.0.1;
-      eight = sym (length-map a.ran (triple-type.the_field).into) ∙ s.1.0.1;
+      eight = s.1.0.1;
       small = all_small a.ran s.0 s.1.1;
     }

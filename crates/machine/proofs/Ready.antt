@@ -10,8 +10,8 @@ use base.Fml.{Fml}
 use denote.Shadow.{shadow}
 use denote.Array.{each}
 use denote.Struct.Declared as declared
-use borrow.Author.Rules.{length_unmapped}
 use Rattle.table.specs.contracts.Table.{the_type}
+use Rattle.table.specs.contracts.Task as task_kind
 use Rattle.graph.specs.Words.{pick, bit, all, row, set_of}
 use Rattle.graph.specs.Graph.{edge, done_within, done, held_back}
 use Rattle.graph.proofs.Facts.{sum_none, all_same, past_end}
@@ -28,20 +28,20 @@ use Rattle.machine.proofs.Apart.{slot_of}
 use Rattle.machine.proofs.Filling.{set_ext}
 
 -- ---- what owning an array of structs tells of each of them
-each_at : (X Y : Type 0) (R : Y → List Val → Fml) (f : X → Y) (xs : List X) (us : List Val) (d : X) (i : ℕ) → i < length xs → shadow (each Y R (map f xs) us)
-    → (u : Val) × shadow (R (f (get_or xs i d)) (u ∷ []))
-each_at X Y R f [] us d i b h = absurd (omega arith)
-each_at X Y R f (x ∷ xs) [] d i b h = absurd h
-each_at X Y R f (x ∷ xs) (u ∷ us) d zero b h = (u, h.0)
-each_at X Y R f (x ∷ xs) (u ∷ us) d (suc i) b h = each_at X Y R f xs us d i (omega arith) h.1
+each_at : (X : Type 0) (R : X → List Val → Fml) (xs : List X) (us : List Val) (d : X) (i : ℕ) → i < length xs → shadow (each X R xs us)
+    → (u : Val) × shadow (R (get_or xs i d) (u ∷ []))
+each_at X R [] us d i b h = absurd (omega arith)
+each_at X R (x ∷ xs) [] d i b h = absurd h
+each_at X R (x ∷ xs) (u ∷ us) d zero b h = (u, h.0)
+each_at X R (x ∷ xs) (u ∷ us) d (suc i) b h = each_at X R xs us d i (omega arith) h.1
 
 -- so each task of a table that is handed over has sixteen successors
-pub successors : (t : Table) (vs : List Val) → shadow ((declared.row the_type).own t vs) → (i : ℕ) → i < 16 → length (task t i).succ ≡ 16
+pub successors : (t : Table) (vs : List Val) → shadow ((declared.row the_type).own_val t vs) → (i : ℕ) → i < 16 → length (task t i).succ ≡ 16
 unfolding task
 successors t vs good i b =
     let h = good.1.1.1.1.0.1 in
     let n : length t.tasks ≡ 16 = search (length_mapped, rules) in
-    length_unmapped ℕ (task t i).succ 16 (each_at _ _ _ _ t.tasks _ no_task i (omega arith) h.1).1.1.1.1.1.1.0.1.0.1
+    (each_at _ (declared.row task_kind.the_type).own_val t.tasks _ no_task i (omega arith) h.1).1.1.1.1.1.1.0.1.0.1
 
 -- ---- it is all the same whether all are asked or the first sixteen, those past them leading nowhere
 all_upto : (v n : ℕ) (p : ℕ → Bool) → v ≤ n → ((j : ℕ) → v ≤ j → j < n → p j ≡ true) → all n p ≡ all v p

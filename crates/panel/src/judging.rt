@@ -16,8 +16,7 @@ fn flag_of(b: bool) -> u8
 }
 
 // The ruling on a journal of a table file.
-#[unsafe(no_mangle)]
-pub extern "C" fn mt_judge(bytes: &[u8], rows: &[u8]) -> RulingAnswer
+pub fn mt_judge(bytes: &[u8], rows: &[u8]) -> RulingAnswer
     ensures { result ≡ ruling_answer bytes.now rows.now }
 {
     let j = journal::judge(bytes, rows);

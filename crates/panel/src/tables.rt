@@ -56,8 +56,7 @@ fn table_face(t: Table) -> FaceTable
 }
 
 // Reads a table file.
-#[unsafe(no_mangle)]
-pub extern "C" fn mt_read(bytes: &[u8]) -> ReadAnswer
+pub fn mt_read(bytes: &[u8]) -> ReadAnswer
     ensures { result ≡ read_answer bytes.now }
 {
     let l = table::read(bytes);
@@ -116,8 +115,7 @@ fn table_of(f: FaceTable) -> Table
 }
 
 // Writes a table's file to the front of the buffer and leaves the rest; a refusal writes nothing.
-#[unsafe(no_mangle)]
-pub extern "C" fn mt_write(table: FaceTable, buffer: &mut [u8]) -> WriteAnswer
+pub fn mt_write(table: FaceTable, buffer: &mut [u8]) -> WriteAnswer
     ensures { (result ≡ write_answer (table_of table) (length buffer.old)) × (buffer.new ≡ written (table_of table) buffer.old) }
 {
     let w = writer::write(table_of(table), buffer);

@@ -20,8 +20,7 @@ fn opened_face(o: Opened) -> OpenAnswer
 }
 
 // Opens a table file at any clock.
-#[unsafe(no_mangle)]
-pub extern "C" fn mt_open(bytes: &[u8], clock: u32) -> OpenAnswer
+pub fn mt_open(bytes: &[u8], clock: u32) -> OpenAnswer
     ensures { result ≡ open_answer bytes.now clock }
 {
     opened_face(machine::open(bytes, clock))
@@ -92,16 +91,14 @@ fn tick_face(f: FaceState, bytes: &[u8], releases: u16) -> TickedFace
 }
 
 // One tick; bit i of the release set names task i.
-#[unsafe(no_mangle)]
-pub extern "C" fn mt_tick(bytes: &[u8], state: FaceState, releases: u16) -> TickedFace
+pub fn mt_tick(bytes: &[u8], state: FaceState, releases: u16) -> TickedFace
     ensures { result ≡ tick_answer bytes.now state releases }
 {
     tick_face(state, bytes, releases)
 }
 
 // The same tick on a state that the caller keeps.
-#[unsafe(no_mangle)]
-pub extern "C" fn mt_tick_in_place(state: &mut FaceState, bytes: &[u8], releases: u16) -> TickAnswer
+pub fn mt_tick_in_place(state: &mut FaceState, bytes: &[u8], releases: u16) -> TickAnswer
     ensures { (result ≡ (tick_answer bytes.now state.old releases).answer) × (state.new ≡ (tick_answer bytes.now state.old releases).state) }
 {
     let old = *state;

@@ -27,24 +27,21 @@ fn verdict_face(v: Verdict) -> VerdictAnswer
 }
 
 // The verdict on a file.
-#[unsafe(no_mangle)]
-pub extern "C" fn mt_verdict(bytes: &[u8]) -> VerdictAnswer
+pub fn mt_verdict(bytes: &[u8]) -> VerdictAnswer
     ensures { result ≡ verdict_face (verdict bytes.now) }
 {
     verdict_face(verdict::verdict_of(bytes))
 }
 
 // The sharp verdict on a file.
-#[unsafe(no_mangle)]
-pub extern "C" fn mt_sharp(bytes: &[u8]) -> VerdictAnswer
+pub fn mt_sharp(bytes: &[u8]) -> VerdictAnswer
     ensures { result ≡ verdict_face (sharp bytes.now) }
 {
     verdict_face(sharp::sharp_of(bytes))
 }
 
 // Whether the verdict on a file is 0: 1 for yes, 0 for no.
-#[unsafe(no_mangle)]
-pub extern "C" fn mt_quick(bytes: &[u8]) -> u8
+pub fn mt_quick(bytes: &[u8]) -> u8
     ensures { result ≡ flag (quick bytes.now) }
 {
     if quick::quick(bytes) {
@@ -54,8 +51,7 @@ pub extern "C" fn mt_quick(bytes: &[u8]) -> u8
 }
 
 // The report on a file: its text at the front of the buffer if it fits there, and the rest as it was; its length.
-#[unsafe(no_mangle)]
-pub extern "C" fn mt_report(bytes: &[u8], out: &mut [u8]) -> u64
+pub fn mt_report(bytes: &[u8], out: &mut [u8]) -> u64
     ensures { (result ≡ length (report bytes.now)) × (out.new ≡ report_into (report bytes.now) out.old) }
 {
     let len = reports::report_into(bytes, out);
@@ -63,8 +59,7 @@ pub extern "C" fn mt_report(bytes: &[u8], out: &mut [u8]) -> u64
 }
 
 // The sharp report on a file, likewise.
-#[unsafe(no_mangle)]
-pub extern "C" fn mt_sharp_report(bytes: &[u8], out: &mut [u8]) -> u64
+pub fn mt_sharp_report(bytes: &[u8], out: &mut [u8]) -> u64
     ensures { (result ≡ length (sharp_report bytes.now)) × (out.new ≡ report_into (sharp_report bytes.now) out.old) }
 {
     let len = reports::sharp_report_into(bytes, out);

@@ -1,12 +1,12 @@
 -- The cases that the code tells apart, each with what the rules say of it.
 use mathlib.Core.Path.{◌≡◌, refl, sym, ap, ◌∙◌}
-use mathlib.Core.Bool.{Bool, true, false, ◌&&◌, ◌||◌, not, not-not}
+use mathlib.Core.Bool.{Bool, true, false, ◌||◌, not, not-not}
 use mathlib.Core.List.{List}
 use Prim.Native.Nat.{ℕ, ◌+◌, ◌≤◌, ◌<◌, min}
 use native.Mathlib.Omega.{arith}
 use native.Mathlib.Numerals.{add-one}
 use native.Mathlib.Decide.{ℕ_discrete, dec_lt}
-use lib.Dec.{ltb, leb, eqb}
+use lib.Dec.{eqb}
 use borrow.Author.Tests.{lt-ltb, le-ltb, le-leb, lt-leb, eq-eqb, ne_eqb, eqb-true}
 use Rattle.graph.specs.Words.{flag, bit, sum, all, set_of}
 use Rattle.graph.specs.Graph.{edge, held_back}

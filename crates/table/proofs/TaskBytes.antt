@@ -13,7 +13,7 @@ use Rattle.table.specs.declared.EdgesRead.{EdgesRead}
 use Rattle.table.specs.declared.TaskRead.{TaskRead}
 use Rattle.graph.specs.Words.{those_below, join_from, in_order}
 use Rattle.graph.specs.Graph.{edge}
-use Rattle.table.specs.Memory.{no_succ, no_costs, task, succ}
+use Rattle.table.specs.Memory.{no_succ, no_costs}
 use Rattle.table.specs.Reading.{ticks_at, costs_at, edges_at, task_at}
 use Rattle.table.specs.Writing.{bytes4, edge_bytes}
 use Rattle.table.proofs.Successors.{add_all}

@@ -16,7 +16,7 @@ use Rattle.table.specs.declared.EdgesRead.{EdgesRead}
 use Rattle.table.specs.declared.TaskRead.{TaskRead}
 use Rattle.table.specs.declared.TableRead.{TableRead}
 use Rattle.graph.specs.Graph.{acyclic}
-use Rattle.table.specs.Memory.{no_succ, no_costs, no_tasks, no_row, task, succ}
+use Rattle.table.specs.Memory.{no_succ, no_costs, no_tasks, no_row}
 use Rattle.table.specs.Numbers.{number}
 use Rattle.table.specs.Reading.{mark_at, byte_at, ticks_at, period_at, costs_at, edges_at, bad_task, parts_at, task_at, bad_table, tasks_at, table_at, refused, ending, read}
 use Rattle.table.proofs.FieldViews.{bad_by, Between, mark_view, byte_view, ticks_view, Period, period_view, on_field, went, passed}

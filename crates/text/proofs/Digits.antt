@@ -1,14 +1,11 @@
 -- Digits from the last one on, each put before those that are there; how many there are.
 use mathlib.Core.Path.{◌≡◌, sym, ap, ◌∙◌}
-use mathlib.Core.Bool.{Bool, true, false}
-use mathlib.Core.List.{List, [], ◌∷◌}
+use mathlib.Core.List.{List, ◌∷◌}
 use Prim.Native.Nat.{ℕ, zero, suc, ◌+◌, ◌-◌, ◌/◌, ◌%◌, ◌^◌, ◌≤◌, ◌<◌}
 use native.Mathlib.Omega.{arith}
-use lib.Dec.{ltb}
 use lib.ListN.{length, drop, set, length-set, drop_of_length-le}
 use lib.Seq.{drop-cons, drop-set-lt, get_or-set_same}
 use borrow.Author.Tests.{lt-ltb, le-ltb}
-use Rattle.graph.specs.Words.{pick}
 use Rattle.text.specs.Text.{digits_before, decimal}
 
 -- ---- one digit

@@ -1,6 +1,6 @@
 -- Text as bytes: document 01, "Examples by hand".
 use Rattle.std.specs.Prelude.{List, [], ◌∷◌, ℕ, zero, suc, ◌+◌, ◌/◌, ◌%◌, ltb, ℤ, pos, negsuc}
-use Prim.Native.Char.{Char, code}
+use Prim.Native.Char.{code}
 use Prim.Native.String.{String, [] as none, ◌∷◌ as then}
 use Rattle.graph.specs.Words.{pick}
 

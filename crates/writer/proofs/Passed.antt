@@ -15,7 +15,7 @@ use Rattle.table.specs.declared.Outcome.{Outcome}
 use Rattle.table.specs.declared.Outcome.TheVariants.{Read, Range}
 use Rattle.table.specs.declared.Field.TheVariants.{Stop, Got}
 use Rattle.checks.specs.declared.Checked.{Checked}
-use Rattle.table.specs.Memory.{task, succ}
+use Rattle.table.specs.Memory.{task}
 use Rattle.table.specs.Reading.{onward, when_read, ranged}
 use Rattle.checks.specs.Checking.{stopped, keys_of, task_tested, tasks_tested, checked}
 use Rattle.checks.proofs.Checks.{range_bad}

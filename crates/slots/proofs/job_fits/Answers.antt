@@ -1,8 +1,6 @@
 -- A case for each clause that fails; where all but the last hold, the last decides.
 use mathlib.Core.Path.{sym, ◌∙◌}
 use native.Mathlib.Omega.{arith}
-use borrow.Author.Tests.{not-true, not-false}
-use borrow.Author.Rules.{rules}
 use Rattle.slots.proofs.Behind.{left_in_lem}
 use Rattle.slots.proofs.Cases.{no_ticks, too_many, all_finished, differs, slot_past, above_cost, last_clause, whole_behind_lem}
 use Rattle.slots.proofs.job_fits.Goals as goal

@@ -1,11 +1,9 @@
-use mathlib.Core.Path.{◌≡◌, refl, ◌∙◌}
-use Prim.Native.Nat.{ℕ, ◌+◌, ◌*◌, ◌-◌, ◌≤◌}
+use mathlib.Core.Path.{refl, ◌∙◌}
+use Prim.Native.Nat.{◌+◌, ◌*◌}
 use lib.ListN.{get_or}
-use lib.Dec.{eqb}
 use Rattle.graph.specs.Words.{all}
 use Rattle.slots.proofs.Together.{any_more, any_done}
 use Rattle.slots.proofs.Cases.{none_past, none_left}
-use borrow.Author.Rules.{rules}
 use native.Mathlib.Omega.{arith}
 use Rattle.slots.proofs.nothing_left.Goals as goal
 

@@ -1,13 +1,9 @@
 -- The loop's invariant: what was or-ed together is 0 exactly if nothing remains of the vertices that were passed.
-use mathlib.Core.Path.{◌≡◌, refl, ◌∙◌}
-use Prim.Native.Nat.{ℕ, ◌+◌, ◌*◌, ◌-◌, ◌≤◌}
+use mathlib.Core.Path.{◌≡◌}
+use Prim.Native.Nat.{◌+◌, ◌*◌, ◌-◌, ◌≤◌}
 use lib.ListN.{get_or}
 use lib.Dec.{eqb}
 use Rattle.graph.specs.Words.{all}
-use Rattle.slots.proofs.Together.{any_more, any_done}
-use Rattle.slots.proofs.Cases.{none_past, none_left}
-use borrow.Author.Rules.{rules}
-use native.Mathlib.Omega.{arith}
 use Rattle.slots.proofs.nothing_left.Given as goal
 
 abbrev pub invariant-loop-u : goal.invariant-loop-u

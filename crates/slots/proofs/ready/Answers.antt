@@ -1,4 +1,3 @@
-use borrow.Author.Rules.{rules}
 use Rattle.slots.proofs.Holding.{ready_set}
 use Rattle.slots.proofs.ready.Goals as goal
 

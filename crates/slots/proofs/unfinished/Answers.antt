@@ -1,7 +1,5 @@
-use Prim.Native.Nat.{◌-◌}
 use native.Mathlib.Omega.{arith}
-use borrow.Author.Rules.{rules}
-use Rattle.slots.proofs.Behind.{Gathered, gathered_none, gathered_more, gathered_same, gathered_all, gathered_past}
+use Rattle.slots.proofs.Behind.{gathered_none, gathered_more, gathered_same, gathered_all, gathered_past}
 use Rattle.slots.proofs.unfinished.Goals as goal
 use Rattle.slots.proofs.unfinished.Goals.{then-remaining-s-ne0, else-remaining-s-ne0}
 

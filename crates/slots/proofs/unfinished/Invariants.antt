@@ -1,9 +1,6 @@
 -- The loop's invariant: the set holds those of the vertices that were passed of which something remains.
-use mathlib.Core.Logic.{⊎_elim}
 use Prim.Native.Nat.{◌-◌}
-use native.Mathlib.Omega.{arith}
-use borrow.Author.Rules.{rules}
-use Rattle.slots.proofs.Behind.{Gathered, gathered_none, gathered_more, gathered_same, gathered_all, gathered_past}
+use Rattle.slots.proofs.Behind.{Gathered}
 use Rattle.slots.proofs.unfinished.Given as goal
 
 abbrev pub invariant-loop-u : goal.invariant-loop-u

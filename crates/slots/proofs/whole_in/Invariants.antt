@@ -1,15 +1,10 @@
 -- The loop's invariant: of the vertices that were passed, those in the set have their whole cost remaining.
-use mathlib.Core.Path.{◌≡◌, refl}
-use mathlib.Core.Logic.{⊎_elim}
+use mathlib.Core.Path.{◌≡◌}
 use mathlib.Core.Bool.{true, ◌||◌, not}
 use Prim.Native.Nat.{◌+◌, ◌*◌, ◌-◌, ◌%◌, ◌≤◌}
-use native.Mathlib.Omega.{arith}
-use borrow.Author.Rules.{rules}
-use borrow.Author.Tests.{eq-eqb, ne_eqb, eqb-true, eqb-false, not-true, not-false}
 use lib.ListN.{get_or}
 use lib.Dec.{eqb}
 use Rattle.graph.specs.Words.{all, bit}
-use Rattle.slots.proofs.Behind.{all_more, all_off, all_done_lem, in_short, in_whole, not_in}
 use Rattle.slots.proofs.whole_in.Given as goal
 
 abbrev pub invariant-loop-u : goal.invariant-loop-u

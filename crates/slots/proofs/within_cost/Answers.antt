@@ -1,11 +1,6 @@
-use mathlib.Core.Path.{◌≡◌, refl}
-use mathlib.Core.Bool.{true}
-use Prim.Native.Nat.{◌+◌, ◌*◌, ◌-◌, ◌%◌, ◌≤◌}
+use mathlib.Core.Path.{refl}
 use native.Mathlib.Omega.{arith}
-use borrow.Author.Rules.{rules}
 use borrow.Author.Tests.{le-leb, lt-leb}
-use lib.ListN.{get_or}
-use lib.Dec.{leb}
 use Rattle.graph.specs.Words.{all}
 use Rattle.slots.specs.Slots.{within_cost}
 use Rattle.slots.proofs.Behind.{all_more, all_off, all_done_lem}

@@ -1,15 +1,10 @@
 -- The loop's invariant: no remaining of the vertices that were passed is above its cost.
-use mathlib.Core.Path.{◌≡◌, refl}
+use mathlib.Core.Path.{◌≡◌}
 use mathlib.Core.Bool.{true}
 use Prim.Native.Nat.{◌+◌, ◌*◌, ◌-◌, ◌%◌, ◌≤◌}
-use native.Mathlib.Omega.{arith}
-use borrow.Author.Rules.{rules}
-use borrow.Author.Tests.{le-leb, lt-leb}
 use lib.ListN.{get_or}
 use lib.Dec.{leb}
 use Rattle.graph.specs.Words.{all}
-use Rattle.slots.specs.Slots.{within_cost}
-use Rattle.slots.proofs.Behind.{all_more, all_off, all_done_lem}
 use Rattle.slots.proofs.within_cost.Given as goal
 
 abbrev pub invariant-loop-u : goal.invariant-loop-u

@@ -1,8 +1,7 @@
-use mathlib.Core.Path.{◌≡◌, refl, sym, ap₂, ◌∙◌}
-use Prim.Native.Nat.{ℕ, ◌+◌, ◌*◌, ◌-◌, ◌≤◌}
+use mathlib.Core.Path.{refl, sym, ap₂, ◌∙◌}
+use Prim.Native.Nat.{ℕ, ◌+◌}
 use native.Mathlib.Omega.{arith}
 use borrow.Author.Rules.{rules}
-use lib.ListN.{get_or}
 use Rattle.graph.specs.Words.{sum}
 use Rattle.slots.proofs.Cases.{work_past, work_sum, sum_next, sum_done}
 use Rattle.slots.proofs.work_left.Goals as goal

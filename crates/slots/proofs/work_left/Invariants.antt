@@ -1,11 +1,8 @@
 -- The loop's invariant: the work is the sum of what remains of the vertices that were passed.
-use mathlib.Core.Path.{◌≡◌, refl, sym, ap₂, ◌∙◌}
-use Prim.Native.Nat.{ℕ, ◌+◌, ◌*◌, ◌-◌, ◌≤◌}
-use native.Mathlib.Omega.{arith}
-use borrow.Author.Rules.{rules}
+use mathlib.Core.Path.{◌≡◌}
+use Prim.Native.Nat.{◌+◌, ◌*◌, ◌-◌, ◌≤◌}
 use lib.ListN.{get_or}
 use Rattle.graph.specs.Words.{sum}
-use Rattle.slots.proofs.Cases.{work_past, work_sum, sum_next, sum_done}
 use Rattle.slots.proofs.work_left.Given as goal
 
 abbrev pub invariant-loop-u : goal.invariant-loop-u

@@ -1,6 +1,5 @@
 -- Live, with work stored, or with none: in the last case what remains decides.
 use mathlib.Core.Path.{◌∙◌}
-use borrow.Author.Rules.{rules}
 use Rattle.slots.proofs.Cases.{zero_live, zero_work, zero_rest}
 use Rattle.slots.proofs.zero_place.Goals as goal
 

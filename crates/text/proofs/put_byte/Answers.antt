@@ -1,6 +1,5 @@
 -- The byte is stored where its place is inside the buffer, and nothing changes otherwise.
 use mathlib.Core.Path.{sym}
-use borrow.Author.Rules.{rules}
 use Rattle.text.proofs.Laying.{laid_one, laid_outside}
 use Rattle.text.proofs.put_byte.Goals as goal
 

@@ -1,10 +1,8 @@
-use mathlib.Core.Path.{◌≡◌, refl, sym, ap, ◌∙◌}
+use mathlib.Core.Path.{refl, sym, ap, ◌∙◌}
 use mathlib.Core.List.{List}
-use Prim.Native.Nat.{ℕ, ◌+◌, ◌-◌, ◌≤◌}
+use Prim.Native.Nat.{ℕ, ◌+◌}
 use native.Mathlib.Omega.{arith}
-use borrow.Author.Rules.{rules}
-use lib.ListN.{length, get_or, set, take, length-set}
-use Rattle.text.specs.Laid.{laid}
+use lib.ListN.{get_or, set, length-set}
 use Rattle.text.proofs.Laying.{laid_none, laid_outside, laid_more, laid_rest}
 use Rattle.text.proofs.put_bytes.Goals as goal
 

@@ -1,12 +1,8 @@
 -- One byte after another, as many as there are or as there is room for. The invariant: the first i are laid.
-use mathlib.Core.Path.{◌≡◌, refl, sym, ap, ◌∙◌}
-use mathlib.Core.List.{List}
-use Prim.Native.Nat.{ℕ, ◌+◌, ◌-◌, ◌≤◌}
-use native.Mathlib.Omega.{arith}
-use borrow.Author.Rules.{rules}
-use lib.ListN.{length, get_or, set, take, length-set}
+use mathlib.Core.Path.{◌≡◌}
+use Prim.Native.Nat.{◌-◌, ◌≤◌}
+use lib.ListN.{length, take}
 use Rattle.text.specs.Laid.{laid}
-use Rattle.text.proofs.Laying.{laid_none, laid_outside, laid_more, laid_rest}
 use Rattle.text.proofs.put_bytes.Given as goal
 
 abbrev pub invariant-loop-i : goal.invariant-loop-i

@@ -6,11 +6,10 @@ use lib.ListN.{length, take, drop, length-drop}
 use Rattle.text.specs.Laid.{laid}
 use Rattle.text.specs.Text.{decimal}
 use lib.Seq.{take_all}
-use borrow.Author.Rules.{rules}
 use Rattle.text.proofs.put_decimal.Goals as goal
 
-pub LEFT-slice-bounds-put-bytes-end : goal.LEFT-slice-bounds-put-bytes-end
-LEFT-slice-bounds-put-bytes-end c = let e : length c.put_digits-from.new.digits ≡ 20 = c.put_digits-from.ensures.1 in omega arith
+pub slice_bounds-put_bytes-end : goal.slice_bounds-put_bytes-end
+slice_bounds-put_bytes-end c = let e : length c.put_digits-from.new.digits ≡ 20 = c.put_digits-from.ensures.1 in omega arith
 
 pub returns : goal.returns
 returns c =

@@ -1,9 +1,7 @@
-use mathlib.Core.Path.{◌≡◌, ◌∙◌}
-use Prim.Native.Nat.{◌-◌, ◌^◌, ◌≤◌, ◌<◌}
+use mathlib.Core.Path.{◌∙◌}
+use Prim.Native.Nat.{◌-◌}
 use native.Mathlib.Omega.{arith}
-use borrow.Author.Rules.{rules}
-use lib.ListN.{length, drop, length-set}
-use Rattle.text.specs.Text.{digits_before, decimal}
+use lib.ListN.{length-set}
 use Rattle.text.proofs.Digits.{none_put, digit_put, last_put, enough}
 use Rattle.text.proofs.put_digits.Goals as goal
 

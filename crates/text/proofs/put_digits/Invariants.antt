@@ -1,12 +1,9 @@
 -- Digits from the last one on. The invariant: p bytes are free, which is enough for what is left of the number, and the digits of that
 -- put before those that stand there are the whole number's.
-use mathlib.Core.Path.{◌≡◌, ◌∙◌}
-use Prim.Native.Nat.{◌-◌, ◌^◌, ◌≤◌, ◌<◌}
-use native.Mathlib.Omega.{arith}
-use borrow.Author.Rules.{rules}
-use lib.ListN.{length, drop, length-set}
+use mathlib.Core.Path.{◌≡◌}
+use Prim.Native.Nat.{◌^◌, ◌≤◌, ◌<◌}
+use lib.ListN.{length, drop}
 use Rattle.text.specs.Text.{digits_before, decimal}
-use Rattle.text.proofs.Digits.{none_put, digit_put, last_put, enough}
 use Rattle.text.proofs.put_digits.Given as goal
 
 abbrev pub invariant-loop-y : goal.invariant-loop-y

@@ -1,10 +1,8 @@
 -- The minus sign is laid, then the digits one place further, or nothing where that is outside.
 use mathlib.Core.Path.{◌∙◌}
-use Prim.Native.Nat.{◌-◌}
 use native.Mathlib.Omega.{arith}
 use Rattle.text.proofs.Decimal.{decimal_length}
 use Rattle.text.proofs.Laying.{one_then, one_outside}
-use borrow.Author.Rules.{rules}
 use Rattle.text.proofs.put_negative.Goals as goal
 
 pub overflow_add-result : goal.overflow_add-result

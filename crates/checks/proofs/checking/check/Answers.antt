@@ -1,6 +1,5 @@
 use mathlib.Core.Path.{◌∙◌}
 use native.Mathlib.Omega.{arith}
-use borrow.Author.Rules.{rules}
 use Rattle.checks.proofs.TaskTests.{m_under, m_over, n_under, n_over, then_tasks}
 use Rattle.checks.proofs.checking.check.Goals as goal
 

@@ -1,6 +1,5 @@
 use mathlib.Core.Bool.{Bool}
 use mathlib.Core.Path.{sym, ap, ◌∙◌}
-use borrow.Author.Rules.{rules}
 use Rattle.graph.specs.Words.{pick}
 use Rattle.graph.specs.Graph.{acyclic}
 use Rattle.checks.specs.Checking.{stopped}
@@ -12,14 +11,14 @@ pub returns-in_default : goal.returns-in_default
 returns-in_default c =
     let a = c.args in
     let o = c.costs_tested-o in
-    c.stop.ensures ∙ parts_costs a.succ a.costs.now a.slot a.at a.v o.result o.ensures c.in-Read.keys2
+    c.stop.ensures ∙ parts_costs a.succ a.costs.now a.slot a.at a.v o.result o.ensures c.in_default.not-Read
 
 pub returns-in_default-p : goal.returns-in_default-p
 returns-in_default-p c =
     let a = c.args in
     c.stop-in_default-p.ensures
     ∙ parts_edges a.succ a.costs.now a.slot a.at a.v c.costs_tested-o.result c.costs_tested-o.ensures c.in-Read.is
-    c.edges_tested-g.result c.edges_tested-g.ensures c.in-Read-p.keys2
+    c.edges_tested-g.result c.edges_tested-g.ensures c.in_default-p.not-Read
 
 pub returns-then-is_acyclic : goal.returns-then-is_acyclic
 returns-then-is_acyclic c =

@@ -1,6 +1,5 @@
 use mathlib.Core.Path.{◌∙◌}
 use native.Mathlib.Omega.{arith}
-use borrow.Author.Rules.{rules}
 use Rattle.checks.proofs.TaskTests.{v_under, v_over, e_over, d_under, d_over, t_under, t_over, t_early, then_parts}
 use Rattle.checks.proofs.checking.check_task.Goals as goal
 

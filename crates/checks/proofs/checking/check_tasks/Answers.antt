@@ -3,7 +3,7 @@ use Prim.Native.Nat.{◌≤◌, ◌+◌, ◌-◌, ◌*◌}
 use native.Mathlib.Nat.{sub-zero}
 use native.Mathlib.Omega.{arith}
 use borrow.Author.Rules.{rules}
-use Rattle.checks.specs.Checking.{task_tested, tasks_tested}
+use Rattle.checks.specs.Checking.{task_tested}
 use Rattle.table.specs.Memory.{task, no_task}
 use Rattle.checks.proofs.TaskTests.{task_next, tasks_stop, tasks_go, tasks_end}
 use Rattle.checks.proofs.checking.check_tasks.Goals as goal
@@ -16,7 +16,7 @@ unfolding task no_task
 returns-in_default c =
     let r = c.check_task-r in
     c.stop.ensures
-    ∙ tasks_stop c.args.table (c.args.table.n - c.loop-i.i) (c.args.table.n - (c.loop-i.i + 1)) c.loop-i.i c.loop-i.at (omega arith) r.result r.ensures c.in-Read.keys2
+    ∙ tasks_stop c.args.table (c.args.table.n - c.loop-i.i) (c.args.table.n - (c.loop-i.i + 1)) c.loop-i.i c.loop-i.at (omega arith) r.result r.ensures c.in_default.not-Read
     ∙ c.loop-i.invariant.2
 
 pub loop-i-preserved : goal.loop-i-preserved

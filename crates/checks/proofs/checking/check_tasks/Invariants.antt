@@ -1,11 +1,6 @@
-use mathlib.Core.Path.{◌≡◌, ◌∙◌}
+use mathlib.Core.Path.{◌≡◌}
 use Prim.Native.Nat.{◌≤◌, ◌+◌, ◌-◌, ◌*◌}
-use native.Mathlib.Nat.{sub-zero}
-use native.Mathlib.Omega.{arith}
-use borrow.Author.Rules.{rules}
-use Rattle.checks.specs.Checking.{task_tested, tasks_tested}
-use Rattle.table.specs.Memory.{task, no_task}
-use Rattle.checks.proofs.TaskTests.{task_next, tasks_stop, tasks_go, tasks_end}
+use Rattle.checks.specs.Checking.{tasks_tested}
 use Rattle.checks.proofs.checking.check_tasks.Given as goal
 
 abbrev pub invariant-loop-i : goal.invariant-loop-i

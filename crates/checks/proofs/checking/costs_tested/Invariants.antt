@@ -1,10 +1,6 @@
-use mathlib.Core.Path.{◌≡◌, ◌∙◌}
+use mathlib.Core.Path.{◌≡◌}
 use Prim.Native.Nat.{◌≤◌, ◌+◌, ◌-◌, ◌*◌}
-use native.Mathlib.Omega.{arith}
-use native.Mathlib.Nat.{sub-zero, add-zero}
-use borrow.Author.Rules.{rules}
 use Rattle.checks.specs.Checking.{costs_tested}
-use Rattle.checks.proofs.TestLaws.{costs_over, costs_more, costs_end}
 use Rattle.checks.proofs.checking.costs_tested.Given as goal
 
 abbrev pub invariant-loop-u : goal.invariant-loop-u

@@ -1,14 +1,8 @@
-use mathlib.Core.Path.{◌≡◌, ap}
+use mathlib.Core.Path.{◌≡◌}
 use Prim.Native.Nat.{◌≤◌, ◌+◌, ◌-◌, ◌*◌}
-use native.Mathlib.Omega.{arith}
-use lib.ListN.{length, get_or, length-append}
-use lib.Count.{ones-le}
-use mir.Syntax.{w16}
-use mir.Val.{Fits}
-use borrow.Author.Rules.{rules}
-use Rattle.checks.specs.Checking.{row_keys, keys_of}
-use Rattle.checks.proofs.Keys.{row_many}
-use Rattle.checks.proofs.TestLaws.{keys_from, keys_start, keys_next, keys_end}
+use lib.ListN.{length}
+use Rattle.checks.specs.Checking.{keys_of}
+use Rattle.checks.proofs.TestLaws.{keys_from}
 use Rattle.checks.proofs.checking.edge_count.Given as goal
 
 abbrev pub invariant-loop-u : goal.invariant-loop-u

@@ -1,7 +1,6 @@
 -- Above sixteen, or counted.
 use mathlib.Core.Path.{◌∙◌}
 use native.Mathlib.Omega.{arith}
-use borrow.Author.Rules.{rules}
 use Rattle.checks.proofs.TestLaws.{edges_past, edges_counted}
 use Rattle.checks.proofs.checking.edges_of.Goals as goal
 

@@ -1,14 +1,14 @@
 use mathlib.Core.List.{List}
-use mathlib.Core.Path.{◌≡◌, sym, ap, ◌∙◌}
-use Prim.Native.Nat.{ℕ, ◌≤◌, ◌+◌, ◌-◌, ◌*◌}
+use mathlib.Core.Path.{sym, ap, ◌∙◌}
+use Prim.Native.Nat.{ℕ, ◌≤◌, ◌+◌, ◌*◌}
 use native.Mathlib.Omega.{arith}
 use lib.Count.{ones-le}
 use lib.ListN.{length, get_or}
 use mir.Val.{Fits}
 use mir.Syntax.{w16}
 use borrow.Author.Rules.{rules}
-use Rattle.checks.specs.Checking.{stopped, row_keys, keys_of, edges_tested}
-use Rattle.checks.proofs.TestLaws.{rows_next, rows_go, rows_end, edges_next, keys_from, keys_start}
+use Rattle.checks.specs.Checking.{stopped, row_keys, edges_tested}
+use Rattle.checks.proofs.TestLaws.{rows_next, rows_go, rows_end, edges_next, keys_start}
 use Rattle.checks.proofs.Otherwise.{otherwise}
 use Rattle.checks.proofs.Keys.{row_many}
 use Rattle.checks.proofs.checking.edges_tested.Goals as goal
@@ -20,7 +20,7 @@ pub returns-in_default : goal.returns-in_default
 unfolding stopped
 returns-in_default c =
     let r = c.row_tested-r in
-    otherwise r.result.outcome stopped _ c.in-Read.keys2
+    otherwise r.result.outcome stopped _ c.in_default.not-Read
     ∙ sym (rows_next c.args.v c.args.succ c.loop-u.u c.loop-u.p r.result (omega arith) r.ensures) ∙ c.loop-u.invariant.2
 
 pub loop-u-preserved : goal.loop-u-preserved

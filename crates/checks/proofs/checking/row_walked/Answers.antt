@@ -1,11 +1,10 @@
-use mathlib.Core.Logic.{⊎_elim}
-use mathlib.Core.Path.{◌≡◌, refl, ◌∙◌}
-use Prim.Native.Nat.{◌≤◌, ◌+◌, ◌-◌, ◌*◌}
+use mathlib.Core.Path.{refl, ◌∙◌}
+use Prim.Native.Nat.{◌+◌, ◌-◌}
 use native.Mathlib.Omega.{arith}
 use borrow.Author.Rules.{rules}
-use Rattle.checks.specs.Checking.{row_keys, edges_tested}
 use Rattle.checks.proofs.TestLaws.{walk_high, walk_same, walk_pass, walk_skip, walk_end}
 use Rattle.checks.proofs.checking.row_walked.Goals as goal
+use Rattle.checks.proofs.checking.row_walked.Goals.{then-x-eq1+else-v-w+else-u-w, else-x-eq1}
 
 pub loop-w-init : goal.loop-w-init
 loop-w-init c = (search rules, search rules, refl)
@@ -20,21 +19,18 @@ returns-then-u-w c =
 
 pub loop-w-preserved : goal.loop-w-preserved
 loop-w-preserved c =
-    ⊎_elim
-    (λ w.
-    let q : c.if-x-eq1.p ≡ c.loop-w.p + 2 = w.3 in
-    let t = w.0.taken in
-    let l = w.1.left in
-    let n = w.2.left in (
-      search rules,
-      omega arith,
-      rw q (walk_pass _ _ _ _ _ _ _ (omega arith) (omega arith) (omega arith) (omega arith) (λ e. omega arith) ∙ c.loop-w.invariant.2),
-    ))
-    (λ w.
-    let q : c.if-x-eq1.p ≡ c.loop-w.p = w.1 in
-    let t = w.0.left in
-    (search rules, omega arith, rw q (walk_skip _ _ _ _ _ _ _ (omega arith) (omega arith) (λ e. omega arith) ∙ c.loop-w.invariant.2)))
-    c.if-x-eq1.branch
+    elim c.if-x-eq1.branch [
+      | then-x-eq1+else-v-w+else-u-w w ↦ (
+        search rules,
+        omega arith,
+        rw w.p-is (walk_pass _ _ _ _ _ _ _ (omega arith) (omega arith) (omega arith) (omega arith) (λ e. omega arith) ∙ c.loop-w.invariant.2),
+      )
+      | else-x-eq1 w ↦ (
+        search rules,
+        omega arith,
+        rw w.p-is (walk_skip _ _ _ _ _ _ _ (omega arith) (omega arith) (λ e. omega arith) ∙ c.loop-w.invariant.2),
+      )
+    ]
 
 pub returns : goal.returns
 returns c = walk_end _ (16 - c.loop-w.w) _ _ _ _ (omega arith) ∙ c.loop-w.invariant.2

@@ -1,10 +1,6 @@
-use mathlib.Core.Logic.{⊎_elim}
-use mathlib.Core.Path.{◌≡◌, refl, ◌∙◌}
+use mathlib.Core.Path.{◌≡◌}
 use Prim.Native.Nat.{◌≤◌, ◌+◌, ◌-◌, ◌*◌}
-use native.Mathlib.Omega.{arith}
-use borrow.Author.Rules.{rules}
 use Rattle.checks.specs.Checking.{row_keys, edges_tested}
-use Rattle.checks.proofs.TestLaws.{walk_high, walk_same, walk_pass, walk_skip, walk_end}
 use Rattle.checks.proofs.checking.row_walked.Given as goal
 
 abbrev pub invariant-loop-w : goal.invariant-loop-w

@@ -1,5 +1,4 @@
 use mathlib.Core.Path.{◌∙◌}
-use borrow.Author.Rules.{rules}
 use Rattle.checks.proofs.UnusedLaws.{in_used, in_v, in_d, in_t, in_rest}
 use Rattle.checks.proofs.entries.unused_in.Goals as goal
 

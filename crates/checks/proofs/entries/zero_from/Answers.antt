@@ -1,10 +1,7 @@
-use mathlib.Core.Path.{◌≡◌}
-use mathlib.Core.Bool.{true}
-use Prim.Native.Nat.{ℕ, ◌≤◌, ◌<◌, ◌-◌}
 use native.Mathlib.Omega.{arith}
 use borrow.Author.Rules.{rules}
 use borrow.Author.Count.{below_more}
-use Rattle.checks.proofs.UnusedLaws.{zero_at, zero_all, zero_before, zero_here, zero_not_cost, zero_not_succ}
+use Rattle.checks.proofs.UnusedLaws.{zero_all, zero_before, zero_here, zero_not_cost, zero_not_succ}
 use Rattle.checks.proofs.entries.zero_from.Goals as goal
 
 pub loop-u-init : goal.loop-u-init

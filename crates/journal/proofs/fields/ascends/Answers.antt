@@ -10,6 +10,18 @@ use Rattle.slots.proofs.Behind.{all_more, all_off, all_done_lem}
 use Rattle.journal.specs.Rows.{row_end, row_triple, ascending}
 use Rattle.journal.proofs.fields.ascends.Goals as goal
 
+pub count_at-count-requires : goal.count_at-count-requires
+unfolding row_end
+count_at-count-requires c = omega arith
+
+pub triple_at-here-requires : goal.triple_at-here-requires
+unfolding row_end
+triple_at-here-requires c = omega arith
+
+pub triple_at-next-requires : goal.triple_at-next-requires
+unfolding row_end
+triple_at-next-requires c = omega arith
+
 pub loop-j-init : goal.loop-j-init
 unfolding all
 loop-j-init c = (omega arith, refl)

@@ -3,13 +3,28 @@ use mathlib.Core.Bool.{true}
 use Prim.Native.Nat.{◌-◌, ◌≤◌}
 use native.Mathlib.Omega.{arith}
 use borrow.Author.Rules.{rules}
-use borrow.Author.Tests.{not-true, not-false}
 use Rattle.graph.specs.Words.{all}
 use Rattle.journal.specs.Rows.{row_task, row_age, row_vertex, row_end}
 use Rattle.journal.specs.Listing.{in_set, all_in}
 use Rattle.slots.proofs.Behind.{all_more, all_off, all_done_lem}
 use Rattle.journal.proofs.SetTests.{in_by}
 use Rattle.journal.proofs.lists.are_in.Goals as goal
+
+pub count_at-count-requires : goal.count_at-count-requires
+unfolding row_end
+count_at-count-requires c = omega arith
+
+pub task_at-i-requires : goal.task_at-i-requires
+unfolding row_end
+task_at-i-requires c = omega arith
+
+pub age_at-p-requires : goal.age_at-p-requires
+unfolding row_end
+age_at-p-requires c = omega arith
+
+pub vertex_at-u-requires : goal.vertex_at-u-requires
+unfolding row_end
+vertex_at-u-requires c = omega arith
 
 pub loop-j-init : goal.loop-j-init
 unfolding all
@@ -23,7 +38,7 @@ returns-then-not-is_in c =
     let g = c.age_at-p in
     let v = c.vertex_at-u in
     let e = in_by _ c.is_in.result _ _ _ t.result g.result v.result c.is_in.ensures t.ensures.0 g.ensures.0 v.ensures.0 in
-    all_off _ _ l.j (omega arith) (e ∙ not-true _ c.if-not-is_in.true)
+    all_off _ _ l.j (omega arith) (e ∙ c.if-not-is_in.true)
 
 pub loop-j-preserved : goal.loop-j-preserved
 loop-j-preserved c =
@@ -32,7 +47,7 @@ loop-j-preserved c =
     let g = c.age_at-p in
     let v = c.vertex_at-u in
     let e = in_by _ c.is_in.result _ _ _ t.result g.result v.result c.is_in.ensures t.ensures.0 g.ensures.0 v.ensures.0 in
-    (omega arith, all_more _ _ l.invariant.1 (e ∙ not-false _ c.if-not-is_in.false))
+    (omega arith, all_more _ _ l.invariant.1 (e ∙ c.if-not-is_in.false))
 
 pub returns : goal.returns
 unfolding all_in

@@ -7,6 +7,14 @@ use Rattle.journal.specs.Rows.{row_end}
 use Rattle.journal.proofs.SetTests.{KeptTo, one_kept, all_kept}
 use Rattle.journal.proofs.lists.chosen_at.Goals as goal
 
+pub count_at-count-requires : goal.count_at-count-requires
+unfolding row_end
+count_at-count-requires c = omega arith
+
+pub key_at-requires : goal.key_at-requires
+unfolding row_end
+key_at-requires c = omega arith
+
 pub loop-j-init : goal.loop-j-init
 loop-j-init c = (omega arith, refl, λ k h. absurd (omega arith))
 

@@ -1,15 +1,14 @@
 use mathlib.Core.Path.{◌≡◌, refl, ap}
-use mathlib.Core.Logic.{⊎_elim}
 use mathlib.Core.Bool.{true, ◌||◌, not}
 use Prim.Native.Nat.{◌-◌, ◌≤◌}
 use native.Mathlib.Omega.{arith}
 use borrow.Author.Rules.{rules}
-use borrow.Author.Tests.{ltb-true, ltb-false}
 use lib.ListN.{get_or}
 use lib.Dec.{leb, eqb}
 use Rattle.graph.specs.Words.{all}
 use Rattle.slots.proofs.Behind.{all_more, all_off, all_done_lem}
 use Rattle.journal.proofs.RowTests.{no_later, later_ticks, later_none}
+use Rattle.journal.proofs.lists.is_sooner.Goals.{else-rest-k-ne0-via-then-rest-k-ne0+else-ticks-k, else-rest-k-ne0-via-else-rest-k-ne0}
 use Rattle.journal.proofs.lists.is_sooner.Goals as goal
 
 pub loop-k-init : goal.loop-k-init
@@ -22,7 +21,7 @@ returns-then-ticks-k c =
     let a = c.args in
     let x = get_or a.rest l.k 0 in
     let y = get_or a.ticks l.k 0 in
-    ap not (all_off _ _ l.k (omega arith) (no_later x a.most y c.if-rest-k-ne0.true (ltb-true y a.most c.if-ticks-k.true)))
+    ap not (all_off _ _ l.k (omega arith) (no_later x a.most y c.if-rest-k-ne0.true c.if-ticks-k.true))
 
 pub loop-k-preserved : goal.loop-k-preserved
 loop-k-preserved c =
@@ -30,10 +29,10 @@ loop-k-preserved c =
     let a = c.args in
     let x = get_or a.rest l.k 0 in
     let y = get_or a.ticks l.k 0 in
-    ⊎_elim
-    (λ w. (omega arith, all_more _ _ l.invariant.1 (later_ticks x a.most y (ltb-false y a.most w.1.left))))
-    (λ w. (omega arith, all_more _ _ l.invariant.1 (later_none x a.most y w.left)))
-    c.if-rest-k-ne0.branch
+    elim c.else-rest-k-ne0.branch [
+      | else-rest-k-ne0-via-then-rest-k-ne0+else-ticks-k w ↦ (omega arith, all_more _ _ l.invariant.1 (later_ticks x a.most y w.if-ticks-k.false))
+      | else-rest-k-ne0-via-else-rest-k-ne0 w ↦ (omega arith, all_more _ _ l.invariant.1 (later_none x a.most y w.if-rest-k-ne0.false))
+    ]
 
 pub returns : goal.returns
 returns c = ap not (all_done_lem _ _ c.loop-k.k (omega arith) c.loop-k.invariant.1)

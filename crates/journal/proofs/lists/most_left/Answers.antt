@@ -10,6 +10,10 @@ use Rattle.journal.specs.Listing.{row_slot}
 use Rattle.journal.proofs.SetTests.{slot_small}
 use Rattle.journal.proofs.lists.most_left.Goals as goal
 
+pub count_at-count-requires : goal.count_at-count-requires
+unfolding row_end
+count_at-count-requires c = omega arith
+
 largest_next : (n : ℕ) (f : ℕ → ℕ) → largest (n + 1) f ≡ max (largest n f) (f n)
 unfolding largest
 largest_next n f = ap (λ (k : ℕ). largest k f) (add-one n)

@@ -7,6 +7,14 @@ use Rattle.journal.specs.Listing.{AreVertices, row_slot}
 use Rattle.journal.proofs.SetTests.{TakenTo, none_taken, one_taken, all_taken, listed_length, listed_at, slot_small}
 use Rattle.journal.proofs.lists.unlisted.Goals as goal
 
+pub count_at-count-requires : goal.count_at-count-requires
+unfolding row_end
+count_at-count-requires c = omega arith
+
+pub vertex_at-u-requires : goal.vertex_at-u-requires
+unfolding row_end
+vertex_at-u-requires c = omega arith
+
 pub loop-j-init : goal.loop-j-init
 loop-j-init c = (omega arith, none_taken _ _ (search rules))
 

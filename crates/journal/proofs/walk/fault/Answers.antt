@@ -7,10 +7,6 @@ use Rattle.journal.specs.Rows.{row_set, row_end}
 use Rattle.journal.proofs.RowFaults.{offered_of}
 use Rattle.journal.proofs.walk.fault.Goals as goal
 
--- what is known once the row's bytes and its release set were passed: it is whole
-whole : (c : goal.Else-early-ne0) → row_end c.before.before.before.args.bytes.now c.before.before.before.args.at ≤ length c.before.before.before.args.bytes.now
-whole c = c.before.set-fault.ensures.whole c.if1.false
-
 pub set_fault-early-requires : goal.set_fault-early-requires
 set_fault-early-requires c = c.requires
 
@@ -19,10 +15,12 @@ returns-then-early-ne0 c = sym (c.set_fault-early.ensures.refused c.if-early-ne0
 
 pub set_at-set-requires : goal.set_at-set-requires
 unfolding row_end
-set_at-set-requires c = let w = whole c in omega arith
+set_at-set-requires c =
+    let w : row_end c.args.bytes.now c.args.at ≤ length c.args.bytes.now = c.set_fault-early.ensures.whole c.if-early-ne0.false in
+    omega arith
 
 pub choice_fault-requires : goal.choice_fault-requires
-choice_fault-requires c = whole c
+choice_fault-requires c = c.set_fault-early.ensures.whole c.if-early-ne0.false
 
 pub returns : goal.returns
 returns c =

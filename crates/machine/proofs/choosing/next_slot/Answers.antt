@@ -29,9 +29,9 @@ loop-rest-preserved c =
     let left : ℕ = bit_and l.rest (l.rest - 1) in
     elim c.if-ranks_before.branch [
       | then-ranks_before w ↦ subst (Leads a.ticks.now a.among left) (sym w.best-is)
-    (leads_new a.ticks.now a.among l.rest l.best f.result l.invariant (omega arith) f.ensures.0 (sym b.ensures ∙ w.if-ranks_before.true))
+          (leads_new a.ticks.now a.among l.rest l.best f.result l.invariant (omega arith) f.ensures.0 (sym b.ensures ∙ w.if-ranks_before.true))
       | else-ranks_before w ↦ subst (Leads a.ticks.now a.among left) (sym w.best-is)
-    (leads_still a.ticks.now a.among l.rest l.best f.result l.invariant (omega arith) f.ensures.0 (sym b.ensures ∙ w.if-ranks_before.false))
+          (leads_still a.ticks.now a.among l.rest l.best f.result l.invariant (omega arith) f.ensures.0 (sym b.ensures ∙ w.if-ranks_before.false))
     ]
 
 pub returns : goal.returns

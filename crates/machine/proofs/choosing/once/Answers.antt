@@ -33,13 +33,13 @@ loop-j-preserved c =
     let z = l.invariant.1.room in
     elim c.if-not-holds.branch [
       | then-not-holds w ↦ (
-      omega arith,
-      rw (w.keys-is, w.count-is) (once_new given l.j l.keys l.count l.invariant.1 x b e (omega (arith, n.ensures)) (omega arith) (sym c.holds.ensures ∙ w.if-not-holds.true)),
-    )
+        omega arith,
+        rw (w.keys-is, w.count-is) (once_new given l.j l.keys l.count l.invariant.1 x b e (omega (arith, n.ensures)) (omega arith) (sym c.holds.ensures ∙ w.if-not-holds.true)),
+      )
       | else-not-holds w ↦ (
-      omega arith,
-      rw (w.keys-is, w.count-is) (once_again given l.j l.keys l.count l.invariant.1 x b e (sym c.holds.ensures ∙ w.if-not-holds.false)),
-    )
+        omega arith,
+        rw (w.keys-is, w.count-is) (once_again given l.j l.keys l.count l.invariant.1 x b e (sym c.holds.ensures ∙ w.if-not-holds.false)),
+      )
     ]
 
 pub returns : goal.returns

@@ -20,10 +20,10 @@ loop-rest-preserved c =
     let left : ℕ = bit_and l.rest (l.rest - 1) in
     let test = has_some a.sets.now in
     elim c.if-sets-s-ne0.branch [
-      | then-sets-s-ne0 w ↦ subst (Gathered test a.live left) (ap (bit_or l.among) (sym w.power.ensures) ∙ sym w.among-is)
-    (gathered_one test a.live l.rest l.among l.invariant (omega arith) f.result f.ensures.0 (lt-ltb 0 (get_or a.sets.now f.result 0) (let z = w.if-sets-s-ne0.true in omega arith)))
+      | then-sets-s-ne0 w ↦ subst (Gathered test a.live left) (ap (bit_or l.among) (sym w.power-among.ensures) ∙ sym w.among-is)
+          (gathered_one test a.live l.rest l.among l.invariant (omega arith) f.result f.ensures.0 (lt-ltb 0 (get_or a.sets.now f.result 0) (let z = w.if-sets-s-ne0.true in omega arith)))
       | else-sets-s-ne0 w ↦ subst (Gathered test a.live left) (sym w.among-is)
-    (gathered_skip test a.live l.rest l.among l.invariant (omega arith) f.result f.ensures.0 (le-ltb 0 (get_or a.sets.now f.result 0) (let z = w.if-sets-s-ne0.false in omega arith)))
+          (gathered_skip test a.live l.rest l.among l.invariant (omega arith) f.result f.ensures.0 (le-ltb 0 (get_or a.sets.now f.result 0) (let z = w.if-sets-s-ne0.false in omega arith)))
     ]
 
 pub returns : goal.returns

@@ -27,11 +27,11 @@ loop-rest-preserved c =
     let left = c.move_rest.ensures in
     elim c.if-from-lt64.branch [
       | then-from-lt64 w ↦ closing_with a.over a.going a.deadlines.now a.remaining.now a.work.now c.slots_of-rest.result l.rest l.live l.deadlines l.remaining l.work l.invariant
-    (omega arith) s.result from.result s.ensures.0 from.ensures.0 c.if-from-lt64.live c.if-from-lt64.deadlines _ c.if-from-lt64.work left
-    w.if-from-lt64.true w.power.result w.power.ensures w.live-is w.deadlines-is w.work-is
+          (omega arith) s.result from.result s.ensures.0 from.ensures.0 c.if-from-lt64.live c.if-from-lt64.deadlines _ c.if-from-lt64.work left
+          w.if-from-lt64.true w.power-live.result w.power-live.ensures w.live-is w.deadlines-is w.work-is
       | else-from-lt64 w ↦ closing_without a.over a.going a.deadlines.now a.remaining.now a.work.now c.slots_of-rest.result l.rest l.live l.deadlines l.remaining l.work l.invariant
-    (omega arith) s.result from.result s.ensures.0 from.ensures.0 c.if-from-lt64.live c.if-from-lt64.deadlines _ c.if-from-lt64.work left
-    w.if-from-lt64.false w.live-is w.deadlines-is w.work-is
+          (omega arith) s.result from.result s.ensures.0 from.ensures.0 c.if-from-lt64.live c.if-from-lt64.deadlines _ c.if-from-lt64.work left
+          w.if-from-lt64.false w.live-is w.deadlines-is w.work-is
     ]
 
 pub returns : goal.returns

@@ -20,7 +20,7 @@ loop-rest-preserved c =
     let test = no_work a.work.now in
     let after = bit_and l.rest (l.rest - 1) in
     elim c.if-work-s-eq0.branch [
-      | then-work-s-eq0 w ↦ subst (Gathered test a.live after) (sym (w.set-is ∙ ap (bit_or l.set) w.power.ensures)) (gathered_one test a.live l.rest l.set l.invariant (omega arith) f.result f.ensures.0 (eq-eqb _ _ w.if-work-s-eq0.true))
+      | then-work-s-eq0 w ↦ subst (Gathered test a.live after) (sym (w.set-is ∙ ap (bit_or l.set) w.power-set.ensures)) (gathered_one test a.live l.rest l.set l.invariant (omega arith) f.result f.ensures.0 (eq-eqb _ _ w.if-work-s-eq0.true))
       | else-work-s-eq0 w ↦ subst (Gathered test a.live after) (sym w.set-is) (gathered_skip test a.live l.rest l.set l.invariant (omega arith) f.result f.ensures.0 (ne_eqb _ _ w.if-work-s-eq0.false))
     ]
 

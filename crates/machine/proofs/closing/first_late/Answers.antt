@@ -20,7 +20,7 @@ loop-rest-preserved c =
     let test = is_late a.clock a.deadlines.now in
     let after = bit_and l.rest (l.rest - 1) in
     elim c.if-deadlines-s.branch [
-      | then-deadlines-s w ↦ subst (Gathered test a.live after) (sym (w.set-is ∙ ap (bit_or l.set) w.power.ensures)) (gathered_one test a.live l.rest l.set l.invariant (omega arith) f.result f.ensures.0 (eq-eqb _ _ w.if-deadlines-s.true))
+      | then-deadlines-s w ↦ subst (Gathered test a.live after) (sym (w.set-is ∙ ap (bit_or l.set) w.power-set.ensures)) (gathered_one test a.live l.rest l.set l.invariant (omega arith) f.result f.ensures.0 (eq-eqb _ _ w.if-deadlines-s.true))
       | else-deadlines-s w ↦ subst (Gathered test a.live after) (sym w.set-is) (gathered_skip test a.live l.rest l.set l.invariant (omega arith) f.result f.ensures.0 (ne_eqb _ _ w.if-deadlines-s.false))
     ]
 

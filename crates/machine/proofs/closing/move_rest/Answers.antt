@@ -13,9 +13,9 @@ loop-u-preserved c =
     let a = c.args in (
       omega arith,
       moved_one a.from a.to a.remaining.now l.u l.remaining l.invariant.1 c.if-from-lt64.x (omega arith) (omega arith) (elim c.if-from-lt64.branch [
-      | then-from-lt64 w ↦ w.x-is ∙ ap (λ (b : Bool). pick b (get_or l.remaining (16 * a.from + l.u) 0) 0) (sym (lt-ltb a.from 64 w.if-from-lt64.true))
-      | else-from-lt64 w ↦ w.x-is ∙ ap (λ (b : Bool). pick b (get_or l.remaining (16 * a.from + l.u) 0) 0) (sym (le-ltb a.from 64 w.if-from-lt64.false))
-    ]),
+        | then-from-lt64 w ↦ w.x-is ∙ ap (λ (b : Bool). pick b (get_or l.remaining (16 * a.from + l.u) 0) 0) (sym (lt-ltb a.from 64 w.if-from-lt64.true))
+        | else-from-lt64 w ↦ w.x-is ∙ ap (λ (b : Bool). pick b (get_or l.remaining (16 * a.from + l.u) 0) 0) (sym (le-ltb a.from 64 w.if-from-lt64.false))
+      ]),
     )
 
 pub returns : goal.returns

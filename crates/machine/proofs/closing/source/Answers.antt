@@ -4,7 +4,7 @@ use Rattle.slots.proofs.Cases.{sum_next}
 use Rattle.machine.proofs.Gaps.{source_found, source_none}
 use Rattle.machine.proofs.closing.source.Invariants.{goes_on}
 use Rattle.machine.proofs.closing.source.Goals as goal
-use Rattle.machine.proofs.closing.source.Goals.{then-going-p-eq1, else-going-p-eq1}
+use Rattle.machine.proofs.closing.source.Goals.{then-going-p-eq1+else-wanted-eq0, else-going-p-eq1}
 
 pub loop-p-init : goal.loop-p-init
 unfolding sum
@@ -24,10 +24,10 @@ loop-p-preserved c =
     let a = c.args in
     let n = sum_next l.p (goes_on a.going a.s) in
     elim c.if-going-p-eq1.branch [
-      | then-going-p-eq1 w ↦ let e : flag (bit a.going (16 * l.p + a.s % 16)) ≡ 1 = ap flag (eq-eqb _ _ w.if-going-p-eq1.true) in
-    (omega arith, omega (arith, w.wanted-is, w.if-wanted-eq0.false, e, n, l.invariant.1))
+      | then-going-p-eq1+else-wanted-eq0 w ↦ let e : flag (bit a.going (16 * l.p + a.s % 16)) ≡ 1 = ap flag (eq-eqb _ _ w.if-going-p-eq1.true) in
+          (omega arith, omega (arith, w.wanted-is, w.if-wanted-eq0.false, e, n, l.invariant.1))
       | else-going-p-eq1 w ↦ let e : flag (bit a.going (16 * l.p + a.s % 16)) ≡ 0 = ap flag (ne_eqb _ _ w.if-going-p-eq1.false) in
-    (omega arith, omega (arith, w.wanted-is, e, n, l.invariant.1))
+          (omega arith, omega (arith, w.wanted-is, e, n, l.invariant.1))
     ]
 
 pub returns : goal.returns

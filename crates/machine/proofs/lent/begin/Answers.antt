@@ -17,7 +17,7 @@ unfolding no_task wrap
 loop-rest-preserved c =
     let l = c.loop-rest in
     let a = c.args in
-    swept_at 0 (deadline_in a.clock a.t.tasks) _ _ l.rest l.deadlines l.invariant (omega arith) c.first_of-s.result c.first_of-s.ensures.0 c.wrapping_add_u32.result c.wrapping_add_u32.ensures
+    swept_at 0 (deadline_in a.clock a.t.tasks) _ _ l.rest l.deadlines l.invariant (omega arith) c.first_of-s.result c.first_of-s.ensures.0 c.wrapping_add_u32.result c.wrapping_add_u32.ensures.value
 
 pub returns : goal.returns
 unfolding D task

@@ -18,9 +18,9 @@ loop-p-preserved c =
     let n = sum_next l.p (used_in a.live a.i) in
     elim c.if-live-p-eq1.branch [
       | then-live-p-eq1 w ↦ let e : flag (bit a.live (16 * l.p + a.i)) ≡ 1 = ap flag (eq-eqb _ _ w.if-live-p-eq1.true) in
-    (omega arith, omega (arith, w.count-is, e, n, l.invariant.1), omega (arith, w.count-is, l.invariant.2))
+          (omega arith, omega (arith, w.count-is, e, n, l.invariant.1), omega (arith, w.count-is, l.invariant.2))
       | else-live-p-eq1 w ↦ let e : flag (bit a.live (16 * l.p + a.i)) ≡ 0 = ap flag (ne_eqb _ _ w.if-live-p-eq1.false) in
-    (omega arith, omega (arith, w.count-is, e, n, l.invariant.1), omega (arith, w.count-is, l.invariant.2))
+          (omega arith, omega (arith, w.count-is, e, n, l.invariant.1), omega (arith, w.count-is, l.invariant.2))
     ]
 
 pub returns : goal.returns

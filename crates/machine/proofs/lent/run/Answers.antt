@@ -32,14 +32,14 @@ loop-j-preserved c =
     let b : l.j < length at = omega arith in
     elim c.if-remaining-k-ne0.branch [
       | then-remaining-k-ne0 w ↦ (
-      omega arith,
-      rw (w.remaining-is, w.work-is) (runs_one at rest c.args.work.now l.j l.remaining l.work l.invariant.1 once x.result b here x.ensures.1 w.less-after.result w.one_off.result
-          (omega (arith, w.if-remaining-k-ne0.true)) w.less-after.ensures w.one_off.ensures),
-    )
+        omega arith,
+        rw (w.remaining-is, w.work-is) (runs_one at rest c.args.work.now l.j l.remaining l.work l.invariant.1 once x.result b here x.ensures.1 w.less-after.result w.one_off.result
+            (omega (arith, w.if-remaining-k-ne0.true)) w.less-after.ensures w.one_off.ensures),
+      )
       | else-remaining-k-ne0 w ↦ (
-      omega arith,
-      rw (w.remaining-is, w.work-is) (runs_skip at rest c.args.work.now l.j l.remaining l.work l.invariant.1 once x.result b here x.ensures.1 (omega (arith, w.if-remaining-k-ne0.false))),
-    )
+        omega arith,
+        rw (w.remaining-is, w.work-is) (runs_skip at rest c.args.work.now l.j l.remaining l.work l.invariant.1 once x.result b here x.ensures.1 (omega (arith, w.if-remaining-k-ne0.false))),
+      )
     ]
 
 pub returns : goal.returns

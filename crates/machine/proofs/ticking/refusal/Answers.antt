@@ -17,8 +17,7 @@ pub returns-in_default : goal.returns-in_default
 returns-in_default c =
     let a = c.args in
     let fit = c.fits_rows.result in
-    let p = c.enum_told-in_default-1.given in
-    c.reply-in_default.ensures ∙ no_32 fit a.phase a.named a.t.n a.waits.now c.if-not-fits_rows.false p.0.0 p.1
+    c.reply-in_default.ensures ∙ no_32 fit a.phase a.named a.t.n a.waits.now c.if-not-fits_rows.false c.in_default.field-0 c.in_default.is
     ∙ ap (λ (f : Bool). refusal_of f a.phase a.named a.t.n a.waits.now) c.fits_rows.ensures
 
 pub returns-then-beyond-lt16 : goal.returns-then-beyond-lt16

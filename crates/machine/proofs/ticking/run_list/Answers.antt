@@ -20,15 +20,15 @@ loop-j-preserved c =
     let f = place_in (row (min a.count 8) (key_in a.keys)) in
     elim c.if-j-chosen.branch [
       | then-j-chosen w ↦ let b : l.j < length (row (min a.count 8) (key_in a.keys)) = omega (arith, w.if-j-chosen.true) in (
-      omega arith,
-      rw w.ran-is (filled_set 8 nobody f (replicate 8 nobody) l.j l.ran l.invariant.1 w.triple.result (omega arith)
-          (rw (lt-ltb l.j (length (row (min a.count 8) (key_in a.keys))) b) (w.triple.ensures ∙ ap triple_of (sym (row_at (min a.count 8) (key_in a.keys) l.j 0 (omega (arith, w.if-j-chosen.true))))))),
-    )
+        omega arith,
+        rw w.ran-is (filled_set 8 nobody f (replicate 8 nobody) l.j l.ran l.invariant.1 w.triple_of.result (omega arith)
+            (rw (lt-ltb l.j (length (row (min a.count 8) (key_in a.keys))) b) (w.triple_of.ensures ∙ ap triple_of (sym (row_at (min a.count 8) (key_in a.keys) l.j 0 (omega (arith, w.if-j-chosen.true))))))),
+      )
       | else-j-chosen w ↦ let b : length (row (min a.count 8) (key_in a.keys)) ≤ l.j = omega (arith, w.if-j-chosen.false) in (
-      omega arith,
-      rw w.ran-is (filled_kept 8 nobody f (replicate 8 nobody) l.j l.ran l.invariant.1
-          (same_throughout 8 l.j nobody ∙ sym (ap (λ (t : Bool). pick t (triple_of (get_or (row (min a.count 8) (key_in a.keys)) l.j 0)) nobody) (le-ltb _ _ b)))),
-    )
+        omega arith,
+        rw w.ran-is (filled_kept 8 nobody f (replicate 8 nobody) l.j l.ran l.invariant.1
+            (same_throughout 8 l.j nobody ∙ sym (ap (λ (t : Bool). pick t (triple_of (get_or (row (min a.count 8) (key_in a.keys)) l.j 0)) nobody) (le-ltb _ _ b)))),
+      )
     ]
 
 pub returns : goal.returns

@@ -21,7 +21,7 @@ returns-then-late-lt16 c =
     rows_miss a.clock a.phase a.begun a.deadlines.now a.waits.now a.remaining.now a.work.now d.result o.result d.ensures o.ensures
     a.every c.requires.3 w.result w.ensures
     k.result k.new.deadlines k.new.remaining k.new.work k.ensures.0 k.ensures.1 k.ensures.2 k.ensures.3
-    (listed a.chosen) n.result m.result n.ensures m.ensures c.if-late-lt16.true
+    (listed a.chosen) n.result m.result n.ensures.value m.ensures c.if-late-lt16.true
     _ (ap₂ (λ (x : Answer) (z : State). record { answer = x; state = z }) c.answer.ensures c.zeros-stopped.ensures)
 
 pub returns : goal.returns
@@ -38,6 +38,6 @@ returns c =
     rows_go a.clock a.phase a.begun a.deadlines.now a.waits.now a.remaining.now a.work.now d.result o.result d.ensures o.ensures
     a.every c.requires.3 w.result w.ensures
     k.result k.new.deadlines k.new.remaining k.new.work k.ensures.0 k.ensures.1 k.ensures.2 k.ensures.3
-    (listed a.chosen) n.result m.result n.ensures m.ensures c.if-late-lt16.false
+    (listed a.chosen) n.result m.result n.ensures.value m.ensures c.if-late-lt16.false
     g.result g.ensures
     _ (ap (λ (x : Answer). record { answer = x; state = record { clock = n.result; phase = a.phase; tasks = g.result; remaining = k.new.remaining; work = k.new.work } }) c.answer-2.ensures)

@@ -5,7 +5,6 @@ use Prim.Native.Nat.{ℕ, ◌-◌, ◌≤◌}
 use native.Mathlib.Omega.{arith}
 use lib.ListN.{get_or}
 use borrow.Author.Rules.{rules}
-use borrow.Author.Tests.{not-true, not-false}
 use Rattle.graph.specs.Words.{all}
 use Rattle.slots.proofs.Behind.{all_more, all_off, all_done_lem}
 use Rattle.panel.specs.declared.FaceJobs.{FaceJobs}
@@ -21,12 +20,12 @@ pub returns-then-not-proper_place : goal.returns-then-not-proper_place
 unfolding proper_jobs
 returns-then-not-proper_place c =
     let l = c.loop-p in
-    all_off 4 _ l.p (omega arith) (sym c.proper_place.ensures ∙ not-true _ c.if-not-proper_place.true)
+    all_off 4 _ l.p (omega arith) (sym c.proper_place.ensures ∙ c.if-not-proper_place.true)
 
 pub loop-p-preserved : goal.loop-p-preserved
 loop-p-preserved c =
     let l = c.loop-p in
-    (omega arith, all_more _ _ l.invariant.1 (sym c.proper_place.ensures ∙ not-false _ c.if-not-proper_place.false))
+    (omega arith, all_more _ _ l.invariant.1 (sym c.proper_place.ensures ∙ c.if-not-proper_place.false))
 
 pub returns : goal.returns
 unfolding proper_jobs

@@ -5,7 +5,6 @@ use Prim.Native.Nat.{ℕ, ◌-◌, ◌≤◌}
 use native.Mathlib.Omega.{arith}
 use lib.ListN.{get_or}
 use borrow.Author.Rules.{rules}
-use borrow.Author.Tests.{not-true, not-false}
 use Rattle.graph.specs.Words.{all}
 use Rattle.slots.proofs.Behind.{all_more, all_off, all_done_lem}
 use Rattle.panel.specs.declared.FaceJobs.{FaceJobs}
@@ -21,13 +20,13 @@ pub returns-then-not-proper_jobs : goal.returns-then-not-proper_jobs
 unfolding jobs_at no_face_jobs
 returns-then-not-proper_jobs c =
     let l = c.loop-i in
-    all_off 16 _ l.i (omega arith) (sym c.proper_jobs.ensures ∙ not-true _ c.if-not-proper_jobs.true)
+    all_off 16 _ l.i (omega arith) (sym c.proper_jobs.ensures ∙ c.if-not-proper_jobs.true)
 
 pub loop-i-preserved : goal.loop-i-preserved
 unfolding no_face_jobs
 loop-i-preserved c =
     let l = c.loop-i in
-    (omega arith, all_more _ _ l.invariant.1 (sym c.proper_jobs.ensures ∙ not-false _ c.if-not-proper_jobs.false))
+    (omega arith, all_more _ _ l.invariant.1 (sym c.proper_jobs.ensures ∙ c.if-not-proper_jobs.false))
 
 pub returns : goal.returns
 unfolding jobs_at

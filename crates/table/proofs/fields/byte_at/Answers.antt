@@ -1,6 +1,5 @@
 use native.Mathlib.Omega.{arith}
 use Rattle.table.proofs.FieldLaws.{byte_short, byte_within, ranged_low, ranged_high, ranged_got}
-use borrow.Author.Rules.{rules}
 use Rattle.table.proofs.fields.byte_at.Goals as goal
 
 pub returns-then-bytes-at : goal.returns-then-bytes-at

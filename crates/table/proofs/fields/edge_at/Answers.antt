@@ -1,7 +1,6 @@
 use mathlib.Core.Path.{sym, ◌∙◌}
 use native.Mathlib.Omega.{arith}
 use Rattle.table.proofs.FieldLaws.{edge_short, edge_got, edge_bad}
-use borrow.Author.Rules.{rules}
 use Rattle.table.proofs.fields.edge_at.Goals as goal
 
 pub returns-then-bytes-at-lt2 : goal.returns-then-bytes-at-lt2

@@ -1,5 +1,4 @@
 use Rattle.table.proofs.FieldLaws.{ok-laws}
-use borrow.Author.Rules.{rules}
 use Rattle.table.proofs.fields.edge_ok.Goals as goal
 
 pub returns-then-v-from : goal.returns-then-v-from

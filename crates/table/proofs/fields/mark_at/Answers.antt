@@ -1,6 +1,5 @@
 use native.Mathlib.Omega.{arith}
 use Rattle.table.proofs.FieldLaws.{mark_short, mark_got, mark_first, mark_second}
-use borrow.Author.Rules.{rules}
 use Rattle.table.proofs.fields.mark_at.Goals as goal
 
 pub returns-then-n-at : goal.returns-then-n-at

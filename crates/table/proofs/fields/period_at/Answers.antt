@@ -1,6 +1,5 @@
 use Rattle.table.proofs.FieldLaws.{ticks_read, period-laws}
 use native.Mathlib.Omega.{arith}
-use borrow.Author.Rules.{rules}
 use Rattle.table.proofs.fields.period_at.Goals as goal
 
 -- T is at most 1,000,000, so four times T does not wrap

@@ -1,6 +1,5 @@
 use native.Mathlib.Omega.{arith}
 use Rattle.table.proofs.FieldLaws.{ticks_short, ticks_within, ranged_low, ranged_high, ranged_got}
-use borrow.Author.Rules.{rules}
 use Rattle.table.proofs.fields.ticks_at.Goals as goal
 
 pub returns-then-bytes-at-lt4 : goal.returns-then-bytes-at-lt4

@@ -1,13 +1,11 @@
 use Rattle.table.proofs.PartLaws.{costs_end, costs_stop, costs_got}
 use Rattle.table.proofs.FieldLaws.{ticks_read}
 use Rattle.table.specs.declared.CostsRead.{CostsRead}
-use Rattle.table.specs.Reading.{costs_at}
-use lib.ListN.{length}
 use borrow.Author.Rules.{rules}
 use native.Mathlib.Nat.{sub-zero, add-zero}
 use native.Mathlib.Omega.{arith}
 use mathlib.Core.Path.{◌≡◌, refl, ap, ◌∙◌}
-use Prim.Native.Nat.{◌≤◌, ◌+◌, ◌-◌}
+use Prim.Native.Nat.{◌+◌, ◌-◌}
 use Rattle.table.proofs.parts.costs_at.Goals as goal
 
 pub loop-u-init : goal.loop-u-init

@@ -1,13 +1,7 @@
 -- What is left to read from here gives what all of it gives from the start.
-use Rattle.table.proofs.PartLaws.{costs_end, costs_stop, costs_got}
-use Rattle.table.proofs.FieldLaws.{ticks_read}
-use Rattle.table.specs.declared.CostsRead.{CostsRead}
 use Rattle.table.specs.Reading.{costs_at}
 use lib.ListN.{length}
-use borrow.Author.Rules.{rules}
-use native.Mathlib.Nat.{sub-zero, add-zero}
-use native.Mathlib.Omega.{arith}
-use mathlib.Core.Path.{◌≡◌, refl, ap, ◌∙◌}
+use mathlib.Core.Path.{◌≡◌}
 use Prim.Native.Nat.{◌≤◌, ◌+◌, ◌-◌}
 use Rattle.table.proofs.parts.costs_at.Given as goal
 

@@ -1,13 +1,12 @@
 use Rattle.table.proofs.PartLaws.{edges_end, edges_stop, edges_got}
 use Rattle.table.proofs.FieldLaws.{edge_read}
 use Rattle.table.specs.declared.EdgesRead.{EdgesRead}
-use Rattle.table.specs.Reading.{add_edge, edges_at}
-use lib.ListN.{length}
+use Rattle.table.specs.Reading.{add_edge}
 use borrow.Author.Rules.{rules}
 use native.Mathlib.Nat.{sub-zero}
 use native.Mathlib.Omega.{arith}
-use mathlib.Core.Path.{◌≡◌, refl, ap, ◌∙◌}
-use Prim.Native.Nat.{◌≤◌, ◌<◌, ◌+◌, ◌-◌}
+use mathlib.Core.Path.{refl, ap, ◌∙◌}
+use Prim.Native.Nat.{◌+◌, ◌-◌}
 use Rattle.table.proofs.parts.edges_at.Goals as goal
 
 pub loop-i-init : goal.loop-i-init

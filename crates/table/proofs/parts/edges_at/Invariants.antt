@@ -1,14 +1,8 @@
 -- What is left to read from here gives what all of it gives from the start.
-use Rattle.table.proofs.PartLaws.{edges_end, edges_stop, edges_got}
-use Rattle.table.proofs.FieldLaws.{edge_read}
-use Rattle.table.specs.declared.EdgesRead.{EdgesRead}
-use Rattle.table.specs.Reading.{add_edge, edges_at}
+use Rattle.table.specs.Reading.{edges_at}
 use lib.ListN.{length}
-use borrow.Author.Rules.{rules}
-use native.Mathlib.Nat.{sub-zero}
-use native.Mathlib.Omega.{arith}
-use mathlib.Core.Path.{◌≡◌, refl, ap, ◌∙◌}
-use Prim.Native.Nat.{◌≤◌, ◌<◌, ◌+◌, ◌-◌}
+use mathlib.Core.Path.{◌≡◌}
+use Prim.Native.Nat.{◌≤◌, ◌-◌}
 use Rattle.table.proofs.parts.edges_at.Given as goal
 
 abbrev pub invariant-loop-i : goal.invariant-loop-i

@@ -2,7 +2,6 @@ use lib.Pow.{pow-lt}
 use native.Mathlib.Nat.{mod-eq_of_lt, one-mul}
 use mathlib.Core.Path.{ap, ◌∙◌}
 use Prim.Native.Nat.{ℕ, ◌%◌, ◌^◌}
-use borrow.Author.Rules.{rules}
 use Rattle.table.proofs.parts.power.Goals as goal
 
 pub returns : goal.returns

@@ -1,5 +1,4 @@
 use Rattle.table.specs.Reading.{bad_table}
-use borrow.Author.Rules.{rules}
 use Rattle.table.proofs.reading.bad_table.Goals as goal
 
 pub returns : goal.returns

@@ -1,6 +1,5 @@
 use Rattle.table.specs.Reading.{bad_task}
 use Rattle.table.specs.Parts.{found}
-use borrow.Author.Rules.{rules}
 use Rattle.table.proofs.reading.bad_task.Goals as goal
 
 pub returns : goal.returns

@@ -1,7 +1,6 @@
 use Rattle.table.proofs.FieldLaws.{mark_read, byte_read}
 use Rattle.table.proofs.TaskLaws.{head-laws}
 use native.Mathlib.Omega.{arith}
-use borrow.Author.Rules.{rules}
 use Rattle.table.proofs.reading.head_at.Goals as goal
 
 pub returns-in-Stop : goal.returns-in-Stop

@@ -1,5 +1,4 @@
 use Rattle.table.specs.Memory.{no_table, no_tasks, no_row}
-use borrow.Author.Rules.{rules}
 use Rattle.table.proofs.reading.no_table.Goals as goal
 
 pub returns : goal.returns

@@ -3,15 +3,14 @@ use Rattle.table.proofs.RowLaws.{zero_after}
 use Rattle.table.proofs.Costs.{put_length}
 use Rattle.table.proofs.Bits.{zeros_at}
 use Rattle.table.specs.declared.Outcome.TheVariants.{Read}
-use Rattle.table.specs.Reading.{bad_table, tasks_at, table_at}
-use Rattle.table.specs.Parts.{ZeroFrom}
+use Rattle.table.specs.Reading.{bad_table}
 use Rattle.table.specs.Memory.{no_succ, zero_task, no_tasks, no_row}
 use lib.ListN.{length}
 use borrow.Author.Rules.{rules}
 use native.Mathlib.Nat.{sub-zero}
 use native.Mathlib.Omega.{arith}
-use mathlib.Core.Path.{◌≡◌, refl, ap, ◌∙◌}
-use Prim.Native.Nat.{◌≤◌, ◌+◌, ◌*◌, ◌-◌, ◌%◌}
+use mathlib.Core.Path.{refl, ap, ◌∙◌}
+use Prim.Native.Nat.{◌+◌, ◌-◌, ◌%◌}
 use Rattle.table.proofs.reading.read.Goals as goal
 
 pub returns-in-Stop : goal.returns-in-Stop

@@ -1,5 +1,4 @@
 use Rattle.table.specs.Reading.{refused}
-use borrow.Author.Rules.{rules}
 use Rattle.table.proofs.reading.refusal.Goals as goal
 
 pub returns : goal.returns

@@ -1,6 +1,5 @@
 use Rattle.table.proofs.TaskLaws.{head_read, table-laws}
 use native.Mathlib.Omega.{arith}
-use borrow.Author.Rules.{rules}
 use Rattle.table.proofs.reading.table_at.Goals as goal
 
 pub overflow_add-at : goal.overflow_add-at

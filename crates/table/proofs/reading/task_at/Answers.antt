@@ -2,7 +2,6 @@ use Rattle.table.proofs.TaskLaws.{task-laws, task_t, task_parts, task_refused, t
 use Rattle.table.proofs.FieldLaws.{mark_read, byte_read, ticks_read, period_read}
 use native.Mathlib.Omega.{arith}
 use mathlib.Core.Path.{refl}
-use borrow.Author.Rules.{rules}
 use Rattle.table.proofs.reading.task_at.Goals as goal
 
 pub returns-in-Stop : goal.returns-in-Stop

@@ -2,15 +2,13 @@ use Rattle.table.proofs.TaskLaws.{tasks_end, tasks_stop, tasks_got}
 use Rattle.table.proofs.RowLaws.{zero_after}
 use Rattle.table.proofs.Costs.{put_length}
 use Rattle.table.proofs.Bits.{zeros_at}
-use Rattle.table.specs.Reading.{tasks_at}
-use Rattle.table.specs.Parts.{ZeroFrom}
 use Rattle.table.specs.Memory.{no_succ, zero_task, no_tasks, no_row}
 use lib.ListN.{length}
 use borrow.Author.Rules.{rules}
 use native.Mathlib.Nat.{sub-zero}
 use native.Mathlib.Omega.{arith}
-use mathlib.Core.Path.{◌≡◌, refl, ap, ◌∙◌}
-use Prim.Native.Nat.{◌≤◌, ◌+◌, ◌*◌, ◌-◌}
+use mathlib.Core.Path.{refl, ap, ◌∙◌}
+use Prim.Native.Nat.{◌+◌, ◌-◌}
 use Rattle.table.proofs.reading.tasks_at.Goals as goal
 
 pub loop-i-init : goal.loop-i-init

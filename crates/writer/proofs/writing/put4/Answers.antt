@@ -1,7 +1,6 @@
 use native.Mathlib.Numerals.{towards_suc}
 use native.Mathlib.Omega.{arith}
 use lib.ListN.{length-set}
-use borrow.Author.Rules.{rules}
 use Rattle.table.specs.Writing.{bytes4}
 use Rattle.writer.proofs.writing.put4.Goals as goal
 

@@ -1,11 +1,10 @@
 use mathlib.Core.Path.{◌≡◌, refl, sym, ap, ◌∙◌}
-use Prim.Native.Nat.{ℕ, ◌≤◌, ◌+◌, ◌-◌, ◌*◌}
+use Prim.Native.Nat.{ℕ, ◌+◌}
 use native.Mathlib.Omega.{arith}
 use lib.ListN.{length, get_or}
 use lib.Seq.{sets}
 use borrow.Author.Rules.{rules}
 use Rattle.table.specs.Writing.{bytes4}
-use Rattle.writer.specs.Putting.{cost_bytes}
 use Rattle.writer.proofs.PutLaws.{sets_then, costs_from, costs_start, costs_next, costs_last, four_long}
 use Rattle.writer.proofs.writing.put_costs.Goals as goal
 
@@ -20,7 +19,7 @@ loop-u-preserved c =
     let n : c.loop-u.p + 4 ≡ c.loop-u.p + length (bytes4 x) = ap (λ (k : ℕ). c.loop-u.p + k) (sym (four_long x)) in (
       search rules,
       omega arith,
-      p.auto.0 ∙ c.loop-u.invariant.2,
+      p.auto.buffer ∙ c.loop-u.invariant.2,
       sets_then (bytes4 x) (costs_from a.costs.now a.slot a.v (c.loop-u.u + 1)) _ _ _ _ p.ensures n
           ∙ ap (sets c.loop-u.buffer c.loop-u.p) (sym (costs_next a.costs.now a.slot a.v c.loop-u.u (omega arith))) ∙ c.loop-u.invariant.3,
     )

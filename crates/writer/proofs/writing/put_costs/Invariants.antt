@@ -1,12 +1,9 @@
-use mathlib.Core.Path.{◌≡◌, refl, sym, ap, ◌∙◌}
-use Prim.Native.Nat.{ℕ, ◌≤◌, ◌+◌, ◌-◌, ◌*◌}
-use native.Mathlib.Omega.{arith}
-use lib.ListN.{length, get_or}
+use mathlib.Core.Path.{◌≡◌}
+use Prim.Native.Nat.{◌≤◌, ◌+◌, ◌-◌, ◌*◌}
+use lib.ListN.{length}
 use lib.Seq.{sets}
-use borrow.Author.Rules.{rules}
-use Rattle.table.specs.Writing.{bytes4}
 use Rattle.writer.specs.Putting.{cost_bytes}
-use Rattle.writer.proofs.PutLaws.{sets_then, costs_from, costs_start, costs_next, costs_last, four_long}
+use Rattle.writer.proofs.PutLaws.{costs_from}
 use Rattle.writer.proofs.writing.put_costs.Given as goal
 
 abbrev pub invariant-loop-u : goal.invariant-loop-u

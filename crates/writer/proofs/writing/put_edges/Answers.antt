@@ -1,12 +1,12 @@
 use mathlib.Core.Path.{◌≡◌, refl, sym, ap, ◌∙◌}
 use mathlib.Core.List.{List}
-use Prim.Native.Nat.{ℕ, ◌≤◌, ◌+◌, ◌-◌, ◌*◌, ◌%◌}
+use Prim.Native.Nat.{ℕ, ◌+◌, ◌*◌, ◌%◌}
 use native.Mathlib.Omega.{arith}
 use lib.ListN.{length, get_or}
 use lib.Seq.{sets}
 use borrow.Author.Rules.{rules}
 use Rattle.table.specs.Writing.{edge_bytes}
-use Rattle.checks.specs.Checking.{row_keys, keys_of}
+use Rattle.checks.specs.Checking.{row_keys}
 use Rattle.checks.proofs.TestLaws.{keys_from, keys_start, keys_end}
 use Rattle.writer.proofs.PutLaws.{sets_then, rows_bytes, rows_long, no_edges}
 use Rattle.table.proofs.Places.{edges_long}
@@ -42,7 +42,7 @@ loop-u-preserved c =
     let e₁ : r.result ≡ l.p + 2 * length row = rw q at r.ensures.1 in
     let e₀ : r.new.buffer ≡ sets l.buffer l.p (edge_bytes row) = rw q at r.ensures.0 in (
       search rules,
-      r.auto.0 ∙ l.invariant.1,
+      r.auto.buffer ∙ l.invariant.1,
       omega arith,
       sets_then (edge_bytes row) (edge_bytes (keys_from a.v a.succ (l.u + 1))) l.buffer r.new.buffer l.p r.result e₀ (omega arith)
           ∙ ap (sets l.buffer l.p) (sym (rows_bytes a.v a.succ l.u (omega arith))) ∙ l.invariant.3,

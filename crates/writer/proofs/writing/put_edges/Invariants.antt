@@ -1,15 +1,10 @@
-use mathlib.Core.Path.{◌≡◌, refl, sym, ap, ◌∙◌}
-use mathlib.Core.List.{List}
-use Prim.Native.Nat.{ℕ, ◌≤◌, ◌+◌, ◌-◌, ◌*◌, ◌%◌}
-use native.Mathlib.Omega.{arith}
-use lib.ListN.{length, get_or}
+use mathlib.Core.Path.{◌≡◌}
+use Prim.Native.Nat.{◌≤◌, ◌+◌, ◌-◌, ◌*◌}
+use lib.ListN.{length}
 use lib.Seq.{sets}
-use borrow.Author.Rules.{rules}
 use Rattle.table.specs.Writing.{edge_bytes}
-use Rattle.checks.specs.Checking.{row_keys, keys_of}
-use Rattle.checks.proofs.TestLaws.{keys_from, keys_start, keys_end}
-use Rattle.writer.proofs.PutLaws.{sets_then, rows_bytes, rows_long, no_edges}
-use Rattle.table.proofs.Places.{edges_long}
+use Rattle.checks.specs.Checking.{keys_of}
+use Rattle.checks.proofs.TestLaws.{keys_from}
 use Rattle.writer.proofs.writing.put_edges.Given as goal
 
 abbrev pub invariant-loop-u : goal.invariant-loop-u

@@ -1,7 +1,6 @@
 use native.Mathlib.Numerals.{towards_suc}
 use native.Mathlib.Omega.{arith}
 use lib.ListN.{length-set}
-use borrow.Author.Rules.{rules}
 use Rattle.writer.proofs.writing.put_head.Goals as goal
 
 pub bounds-buffer-at-2 : goal.bounds-buffer-at-2

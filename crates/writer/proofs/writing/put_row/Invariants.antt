@@ -1,16 +1,9 @@
-use mathlib.Core.Path.{◌≡◌, refl, sym, ap, ◌∙◌}
-use mathlib.Core.List.{List, ◌∷◌}
-use Prim.Native.Nat.{ℕ, ◌≤◌, ◌<◌, ◌+◌, ◌-◌, ◌*◌, ◌^◌, ◌/◌}
-use native.Mathlib.Omega.{arith}
-use lib.ListN.{length, length-set}
+use mathlib.Core.Path.{◌≡◌}
+use Prim.Native.Nat.{◌≤◌, ◌<◌, ◌+◌, ◌-◌, ◌*◌, ◌^◌}
+use lib.ListN.{length}
 use lib.Seq.{sets}
-use lib.Count.{count_trailing_zeros}
-use mir.Val.{Fits}
-use mir.Syntax.{w16}
-use borrow.Author.Rules.{rules}
 use Rattle.table.specs.Writing.{edge_bytes}
 use Rattle.checks.specs.Checking.{row_keys}
-use Rattle.writer.proofs.PutLaws.{next_bit, no_bits, put_key, no_edges}
 use Rattle.writer.proofs.writing.put_row.Given as goal
 
 abbrev pub invariant-loop-x : goal.invariant-loop-x

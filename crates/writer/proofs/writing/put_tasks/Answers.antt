@@ -1,12 +1,10 @@
 use mathlib.Core.Path.{◌≡◌, refl, sym, ap, ◌∙◌}
-use Prim.Native.Nat.{◌≤◌, ◌+◌, ◌-◌, ◌*◌}
+use Prim.Native.Nat.{◌+◌, ◌*◌}
 use native.Mathlib.Omega.{arith}
 use lib.ListN.{length, length-append}
 use lib.Seq.{sets}
 use borrow.Author.Rules.{rules}
-use Rattle.graph.specs.Words.{in_order}
 use Rattle.table.specs.Memory.{task, no_task}
-use Rattle.table.specs.Writing.{encode_task}
 use Rattle.writer.specs.Putting.{task_bytes}
 use Rattle.writer.proofs.Passed.{passed_n, passed_counts}
 use Rattle.writer.proofs.PutLaws.{sets_then, tasks_from, tasks_first, tasks_then, tasks_done}
@@ -38,7 +36,7 @@ put_task-p-requires c =
     let g = l.invariant.2 in
     let m = l.invariant.1 in
     let h = c.requires.1 in
-    ((k.v_high, k.e_high, omega arith), omega arith)
+    record { v_bound = (k.v_high, k.e_high, omega arith); slot_in_bounds = omega arith }
 
 pub loop-i-preserved : goal.loop-i-preserved
 unfolding task no_task
@@ -54,7 +52,7 @@ loop-i-preserved c =
     let g = l.invariant.2 in
     let q : r.result ≡ l.p + length bs = r.ensures.1 in (
       search rules,
-      r.auto.0 ∙ l.invariant.1,
+      r.auto.buffer ∙ l.invariant.1,
       omega arith,
       sets_then bs (tasks_from t (l.i + 1)) l.buffer r.new.buffer l.p r.result r.ensures.0 q ∙ ap (sets l.buffer l.p) (sym w) ∙ l.invariant.3,
     )

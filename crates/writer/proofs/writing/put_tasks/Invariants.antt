@@ -1,15 +1,10 @@
-use mathlib.Core.Path.{◌≡◌, refl, sym, ap, ◌∙◌}
-use Prim.Native.Nat.{◌≤◌, ◌+◌, ◌-◌, ◌*◌}
-use native.Mathlib.Omega.{arith}
-use lib.ListN.{length, length-append}
+use mathlib.Core.Path.{◌≡◌}
+use Prim.Native.Nat.{◌≤◌, ◌+◌, ◌-◌}
+use lib.ListN.{length}
 use lib.Seq.{sets}
-use borrow.Author.Rules.{rules}
 use Rattle.graph.specs.Words.{in_order}
-use Rattle.table.specs.Memory.{task, no_task}
 use Rattle.table.specs.Writing.{encode_task}
-use Rattle.writer.specs.Putting.{task_bytes}
-use Rattle.writer.proofs.Passed.{passed_n, passed_counts}
-use Rattle.writer.proofs.PutLaws.{sets_then, tasks_from, tasks_first, tasks_then, tasks_done}
+use Rattle.writer.proofs.PutLaws.{tasks_from}
 use Rattle.writer.proofs.writing.put_tasks.Given as goal
 
 abbrev pub invariant-loop-i : goal.invariant-loop-i
