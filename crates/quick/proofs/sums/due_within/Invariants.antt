@@ -9,9 +9,6 @@ use Rattle.graph.specs.Words.{sum}
 use Rattle.verdict.specs.Verdicts.{rounded_up}
 use Rattle.verdict.proofs.Amounts.{sum_part}
 use Rattle.verdict.proofs.Figured.{sum_next, sum_done}
-use Rattle.quick.proofs.sums.due_within.Reads as reads
-use Rattle.quick.proofs.sums.due_within.Lts as lts
-use Rattle.quick.proofs.sums.rounded_up.Reads as rounded-up-reads
 use Rattle.quick.proofs.sums.due_within.Given as goal
 
 abbrev pub invariant-loop-i : goal.invariant-loop-i

@@ -11,7 +11,7 @@ use Rattle.reports.proofs.Lines.{vertex_is}
 use Rattle.reports.proofs.printing.chain_words.Given as goal
 
 abbrev pub invariant-loop-i : goal.invariant-loop-i
-invariant-loop-i l = (i ≤ l.count) × Put l.initial.out l.at (in_order i (vertex_at l.chain)) l.p l.i × (l.i ≤ l.at + 40 * i)
+invariant-loop-i l = (l.i ≤ l.count) × Put l.initial.out l.at (in_order l.i (vertex_at l.chain)) l.out l.p × (l.p ≤ l.at + 40 * l.i)
 
 abbrev pub decreases-loop-i : goal.decreases-loop-i
-decreases-loop-i l = l.count - i
+decreases-loop-i l = l.count - l.i

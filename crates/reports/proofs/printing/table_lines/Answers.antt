@@ -25,4 +25,4 @@ last_line-requires c =
 pub returns : goal.returns
 unfolding lines_on
 returns c =
-    put_then (put_then c.head_line-p.ensures c.task_lines-q.ensures) c.last_Line.ensures
+    put_then (put_then c.head_line-p.ensures c.task_lines-q.ensures) c.last_line.ensures
