@@ -1,13 +1,8 @@
 -- One vertex behind another. The invariant: the first i are put, and each took 40 bytes at most.
-use mathlib.Core.Path.{◌≡◌, ap}
-use Prim.Native.Nat.{ℕ, ◌+◌, ◌*◌, ◌≤◌, ◌-◌}
-use native.Mathlib.Omega.{arith}
-use borrow.Author.Rules.{rules}
+use Prim.Native.Nat.{◌+◌, ◌*◌, ◌≤◌, ◌-◌}
 use Rattle.graph.specs.Words.{in_order}
 use Rattle.text.specs.Laid.{Put}
-use Rattle.text.proofs.Putting.{put_none, put_same, put_then, put_long, none_before, one_more_lem}
 use Rattle.reports.specs.Report.{vertex_at}
-use Rattle.reports.proofs.Lines.{vertex_is}
 use Rattle.reports.proofs.printing.chain_words.Given as goal
 
 abbrev pub invariant-loop-i : goal.invariant-loop-i

@@ -2,7 +2,6 @@ use native.Mathlib.Omega.{arith}
 use Rattle.reports.specs.Found.{lines_on}
 use Rattle.reports.proofs.Length.{head_most, lines_most}
 use Rattle.text.proofs.Putting.{put_then}
-use borrow.Author.Rules.{rules}
 use Rattle.reports.proofs.printing.table_lines.Goals as goal
 
 pub task_lines-q-requires : goal.task_lines-q-requires
