@@ -13,7 +13,6 @@ use Rattle.graph.specs.Words.{pick}
 use Rattle.table.specs.declared.Outcome.{Outcome}
 use Rattle.table.specs.declared.Outcome.TheVariants.{Read}
 use Rattle.table.specs.declared.Table.{Table}
-use Rattle.table.specs.Numbers.{number}
 use Rattle.table.specs.Reading.{when_read, read}
 use Rattle.table.proofs.Sound.{read_good}
 use Rattle.machine.specs.declared.Phase.TheVariants.{Running}

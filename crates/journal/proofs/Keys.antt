@@ -5,7 +5,7 @@ use mathlib.Core.List.{List, [], ◌∷◌}
 use Prim.Native.Nat.{ℕ, zero, suc, ◌+◌, ◌≤◌, ◌<◌}
 use native.Mathlib.Omega.{arith}
 use native.Mathlib.Decide.{ℕ_discrete}
-use lib.ListN.{length, get_or}
+use lib.ListN.{length}
 use Rattle.graph.specs.Words.{flag, sum, row_from, row, those_below, is_in, Distinct}
 use Rattle.graph.proofs.Facts.{clash, off_when, first_in, other_in, tail_in, sum_le, sum_none, sum_set, count_below, below_pass, below_all, below_distinct}
 use Rattle.graph.proofs.Members.{below_same}

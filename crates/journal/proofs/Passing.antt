@@ -8,7 +8,7 @@ use native.Mathlib.Omega.{arith}
 use lib.ListN.{length, get_or}
 use lib.Dec.{ltb, leb, eqb}
 use borrow.Author.Tests.{ltb-true, ltb-false, not-false, not-true, eqb-true}
-use Rattle.graph.specs.Words.{pick, bit, row, is_in, lowest_or, Distinct}
+use Rattle.graph.specs.Words.{pick, bit, is_in, lowest_or, Distinct}
 use Rattle.graph.proofs.Facts.{clash, both_true, and_true, all_at, length_row, lowest_or_cases, lowest_or_none, below_all, off_when}
 use Rattle.graph.proofs.Lists.{any_some, some_any}
 use Rattle.table.specs.declared.Table.{Table}

@@ -1,6 +1,6 @@
 -- STEP 1 BY ROWS. A slot gets a new job exactly if its task is named and has as many live jobs as the slot's age place says, by the set of live slots
 -- and by the state alike; so the rows that step 1 leaves are those of `released`. And STEP 4 of such rows is `worked`.
-use Rattle.std.proofs.Common.{◌≡◌, ℕ, ◌+◌, ◌-◌, ◌*◌, ◌/◌, ◌%◌, ◌^◌, ◌<◌, Bool, true, false, ◌&&◌, ◌||◌, eqb, ltb, List, length, get_or, sym, refl, ap, ◌∙◌, ap₂, arith}
+use Rattle.std.proofs.Common.{◌≡◌, ℕ, ◌+◌, ◌-◌, ◌*◌, ◌/◌, ◌%◌, ◌<◌, Bool, true, false, ◌&&◌, ◌||◌, eqb, ltb, List, length, get_or, sym, refl, ap, ◌∙◌, ap₂, arith}
 use lib.Bits.{bit_or}
 use Rattle.graph.specs.Words.{flag, pick, bit, sum, row, is_in, set_of}
 use Rattle.graph.proofs.Facts.{sum_same, length_row, row_at}

@@ -1,8 +1,8 @@
 -- WHICH STATES FIT, BY ROWS, of the whole state: each slot is as specs/Rows.antt says and each wait too, exactly if each task is as specs/Fitting.antt says.
-use Rattle.std.proofs.Common.{◌≡◌, ℕ, zero, suc, ◌+◌, ◌-◌, ◌*◌, ◌/◌, ◌%◌, ◌<◌, ◌≤◌, Bool, true, false, ◌&&◌, ◌||◌, eqb, ltb, leb, List, get_or, sym, refl, ap, ◌∙◌, subst, ap₂, arith, ltb-true, le-ltb, lt-ltb, eq-eqb, eqb-true, le-leb, leb-true}
+use Rattle.std.proofs.Common.{◌≡◌, ℕ, zero, suc, ◌+◌, ◌-◌, ◌*◌, ◌/◌, ◌%◌, ◌<◌, ◌≤◌, Bool, true, false, ◌&&◌, ◌||◌, eqb, ltb, leb, List, get_or, sym, refl, ap, ◌∙◌, arith, ltb-true, le-ltb, lt-ltb, eq-eqb, eqb-true, le-leb, leb-true}
 use native.Mathlib.Decide.{dec_lt, ℕ_discrete}
-use Rattle.graph.specs.Words.{pick, bit, all}
-use Rattle.graph.proofs.Facts.{clash, both_true, and_true, all_at, all_of, all_same, off_when}
+use Rattle.graph.specs.Words.{bit, all}
+use Rattle.graph.proofs.Facts.{clash, both_true, and_true, all_at, all_of}
 use Rattle.table.specs.declared.Table.{Table}
 use Rattle.table.specs.Memory.{task, D, T}
 use Rattle.table.specs.Good.{GoodTable}

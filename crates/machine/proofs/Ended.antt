@@ -1,7 +1,7 @@
 -- Steps 5 and 6 by rows: what closing the gaps leaves of the rows after step 4 makes the state after step 5. The slots that go on are those with a live
 -- job that does not finish, so each task's list of them is that of the definition; where the rows are tidy, a task of which no job ends has no gap, and
 -- closing it would change nothing.
-use Rattle.std.proofs.Common.{◌≡◌, ℕ, ◌+◌, ◌-◌, ◌*◌, ◌/◌, ◌%◌, ◌^◌, ◌<◌, ◌≤◌, Bool, true, false, not, ◌&&◌, eqb, ltb, List, length, get_or, sym, refl, ap, ◌∙◌, subst, ap₂, ⊎_elim, arith, le-ltb, lt-ltb}
+use Rattle.std.proofs.Common.{◌≡◌, ℕ, ◌+◌, ◌-◌, ◌*◌, ◌/◌, ◌%◌, ◌<◌, ◌≤◌, Bool, true, false, not, ◌&&◌, eqb, ltb, List, length, get_or, sym, refl, ap, ◌∙◌, ap₂, arith, le-ltb, lt-ltb}
 use native.Mathlib.Decide.{dec_lt}
 use lib.Bits.{bit_and}
 use Rattle.graph.specs.Words.{flag, pick, bit, sum, row, those_below, lowest, set_of}

@@ -1,5 +1,5 @@
 -- WHICH STATES FIT, BY ROWS: the rules of specs/Rows.antt, slot by slot, say of a state taken apart what specs/Fitting.antt says of it.
-use Rattle.std.proofs.Common.{◌≡◌, ℕ, zero, suc, ◌+◌, ◌-◌, ◌*◌, ◌/◌, ◌%◌, ◌<◌, ◌≤◌, Bool, true, false, not, ◌&&◌, ◌||◌, eqb, ltb, leb, List, get_or, sym, refl, ap, ◌∙◌, arith, le-ltb, lt-ltb, eq-eqb, ne_eqb, eqb-true, le-leb}
+use Rattle.std.proofs.Common.{◌≡◌, ℕ, ◌+◌, ◌-◌, ◌*◌, ◌%◌, ◌<◌, ◌≤◌, Bool, true, false, not, ◌&&◌, ◌||◌, eqb, ltb, leb, get_or, sym, refl, ap, ◌∙◌, arith, le-ltb, lt-ltb, eq-eqb, ne_eqb, eqb-true, le-leb}
 use mathlib.Core.Path.{fun_ext}
 use native.Mathlib.Nat.{min-eq_left}
 use native.Mathlib.Decide.{ℕ_discrete, dec_lt}
@@ -7,8 +7,8 @@ use borrow.Author.Tests.{lt-leb}
 use Rattle.graph.specs.Words.{pick, sum, all}
 use Rattle.graph.proofs.Facts.{all_same}
 use Rattle.table.specs.declared.Table.{Table}
-use Rattle.table.specs.Memory.{task, vertices, D, T, succ, edge_in, cost}
-use Rattle.table.specs.Good.{GoodTask, GoodTable}
+use Rattle.table.specs.Memory.{task, vertices, D, succ, edge_in, cost}
+use Rattle.table.specs.Good.{GoodTask}
 use Rattle.slots.specs.Slots as slots
 use Rattle.slots.proofs.Cases as cases
 use Rattle.slots.proofs.Cases.{sum_zero}

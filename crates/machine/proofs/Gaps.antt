@@ -1,6 +1,6 @@
 -- Closing a gap: the slots of a set of tasks; the source of a slot, which is the slot whose job comes to stand there; and sixteen numbers that are moved from
 -- one slot to another. The source is found by counting those that go on: the q-th of them is the one below which q go on.
-use Rattle.std.proofs.Common.{◌≡◌, ℕ, zero, suc, ◌+◌, ◌-◌, ◌*◌, ◌/◌, ◌%◌, ◌^◌, ◌<◌, ◌≤◌, Bool, true, false, eqb, ltb, List, ◌∷◌, length, get_or, set, sym, refl, ap, ◌∙◌, add-zero, zero-add, arith, length-set, get_or-set_other, get_or-set_same, shr-shr, le-ltb, lt-ltb, eq-eqb, ne_eqb}
+use Rattle.std.proofs.Common.{◌≡◌, ℕ, zero, suc, ◌+◌, ◌-◌, ◌*◌, ◌/◌, ◌%◌, ◌^◌, ◌<◌, ◌≤◌, Bool, true, false, eqb, ltb, List, ◌∷◌, length, get_or, set, sym, refl, ap, ◌∙◌, add-zero, zero-add, arith, length-set, get_or-set_other, get_or-set_same, le-ltb, lt-ltb, eq-eqb, ne_eqb}
 use native.Mathlib.Decide.{ℕ_discrete, dec_lt}
 use lib.Bits.{block_half, block_odd}
 use Rattle.graph.specs.Words.{flag, pick, bit, sum, row_from, row, also_if, those, those_below, set_of}

@@ -1,6 +1,6 @@
 -- Sets of slots: one that a loop over the members of another gathers, from the lowest member up, where a test passes; and the set of the tasks that have
 -- a slot in a set, the bits of its four parts of sixteen or-ed together. `rest` are the members still to come.
-use Rattle.std.proofs.Common.{◌≡◌, ℕ, ◌+◌, ◌-◌, ◌*◌, ◌/◌, ◌%◌, ◌^◌, ◌<◌, Bool, true, false, not, ◌&&◌, ◌||◌, eqb, List, get_or, sym, refl, ap, ◌∙◌, ap₂, one-mul, arith, shr-shr, eq-eqb, ne_eqb}
+use Rattle.std.proofs.Common.{◌≡◌, ℕ, ◌+◌, ◌-◌, ◌*◌, ◌/◌, ◌%◌, ◌^◌, ◌<◌, Bool, true, false, not, ◌&&◌, ◌||◌, eqb, sym, refl, ap, ◌∙◌, ap₂, one-mul, arith, shr-shr, eq-eqb, ne_eqb}
 use native.Mathlib.Decide.{ℕ_discrete}
 use lib.Pow.{pow-lt, field, mod-mod-pow}
 use lib.Bits.{bit_and, bit_or, or_lt}

@@ -1,5 +1,5 @@
 -- Step 1 by rows: the slots that get a new job, as a set; a row of 1024 into which sixteen numbers are put, and then those of each slot of a set.
-use Rattle.std.proofs.Common.{◌≡◌, ℕ, ◌+◌, ◌-◌, ◌*◌, ◌/◌, ◌%◌, ◌^◌, ◌<◌, ◌≤◌, Bool, true, false, ◌&&◌, eqb, List, length, get_or, set, sym, refl, ap, ◌∙◌, arith, length-set, get_or-set_other, get_or-set_same, eq-eqb, ne_eqb}
+use Rattle.std.proofs.Common.{◌≡◌, ℕ, ◌+◌, ◌-◌, ◌*◌, ◌/◌, ◌%◌, ◌^◌, ◌<◌, ◌≤◌, Bool, true, false, eqb, List, length, get_or, set, sym, refl, ap, ◌∙◌, arith, length-set, get_or-set_other, get_or-set_same, eq-eqb, ne_eqb}
 use mathlib.Core.Path.{subst⁻¹}
 use native.Mathlib.Decide.{ℕ_discrete, dec_lt}
 use lib.Bits.{bit_and}
@@ -9,7 +9,7 @@ use Rattle.graph.proofs.Facts.{clash, sum_none, length_row, row_at}
 use Rattle.graph.proofs.Bits.{bit_zero}
 use Rattle.machine.specs.Rows.{used_by, is_new_by}
 use Rattle.machine.proofs.Filling.{row_same}
-use Rattle.machine.proofs.Sweeping.{first_small, first_in, falls, others_same, still_in}
+use Rattle.machine.proofs.Sweeping.{first_in, falls, others_same, still_in}
 
 -- ---- the slots that get a new job
 module _ (live named s : ℕ) where

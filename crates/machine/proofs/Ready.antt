@@ -1,6 +1,6 @@
 -- STEP 2 BY ROWS: the ready vertices of each live slot are the available ones of its job, and a slot without a job has none. It is so of any table:
 -- where v is above 16, the vertices past the sixteenth lead nowhere, there being sixteen successors.
-use Rattle.std.proofs.Common.{◌≡◌, ℕ, zero, suc, ◌+◌, ◌*◌, ◌/◌, ◌%◌, ◌^◌, ◌<◌, ◌≤◌, min, Bool, true, false, not, ◌&&◌, ◌||◌, eqb, ltb, List, [], ◌∷◌, map, length, get_or, sym, refl, ap, ◌∙◌, ap₂, arith, rules, lt-ltb, ne_eqb}
+use Rattle.std.proofs.Common.{◌≡◌, ℕ, zero, suc, ◌+◌, ◌*◌, ◌/◌, ◌%◌, ◌^◌, ◌<◌, ◌≤◌, min, Bool, true, false, not, ◌&&◌, ◌||◌, eqb, ltb, List, [], ◌∷◌, length, get_or, sym, refl, ap, ◌∙◌, ap₂, arith, rules, lt-ltb, ne_eqb}
 use mathlib.Core.Path.{fun_ext}
 use mathlib.Core.Bool.{not-not}
 use native.Mathlib.Nat.{min-eq_left, min-eq_right}

@@ -2,7 +2,6 @@
 -- definition says, elsewhere as it was. `rest` are the members still to come.
 use Rattle.std.proofs.Common.{◌≡◌, ℕ, ◌+◌, ◌-◌, ◌^◌, ◌<◌, ◌≤◌, Bool, true, false, not, ◌&&◌, List, length, get_or, set, replicate, sym, refl, ap, ◌∙◌, arith, length-set, get_or-set_other, get_or-set_same, pow_mono, eq-eqb, ne_eqb}
 use mathlib.Core.Path.{subst⁻¹}
-use mathlib.Core.Bool.{false≢true}
 use native.Mathlib.Decide.{ℕ_discrete}
 use lib.Bits.{bit_and, and_le_r}
 use lib.Count.{count_trailing_zeros}

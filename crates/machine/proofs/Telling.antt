@@ -1,8 +1,8 @@
 -- WHAT A REFUSAL TELLS: the refusals of a tick one after the other, as the code tells them by rows; where the number is 0 the tick is admitted, and any
 -- other is the tick's. Each test by rows is the one of specs/Ticking.antt, so the first that fails by rows is the first that fails there.
-use Rattle.std.proofs.Common.{◌≡◌, ℕ, ◌<◌, ◌≤◌, Bool, true, false, ◌&&◌, ltb, leb, List, get_or, sym, refl, ap, ◌∙◌, subst, ⊎_elim, arith}
-use Rattle.graph.specs.Words.{pick, bit, lowest, lowest_or}
-use Rattle.graph.proofs.Facts.{lowest_is, lowest_none, lowest_or_none}
+use Rattle.std.proofs.Common.{◌≡◌, ℕ, ◌<◌, ◌≤◌, Bool, true, false, ◌&&◌, ltb, leb, List, get_or, sym, refl, ap, ◌∙◌, ⊎_elim, arith}
+use Rattle.graph.specs.Words.{pick, bit, lowest_or}
+use Rattle.graph.proofs.Facts.{lowest_or_none}
 use Rattle.table.specs.declared.Table.{Table}
 use Rattle.table.specs.Good.{GoodTable}
 use Rattle.machine.specs.declared.Phase.{Phase}

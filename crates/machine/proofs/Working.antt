@@ -1,10 +1,10 @@
 -- THE STORED WORK (document 02, M-104): each step keeps each job's "equal to the sum of its vertices' remainings", whatever is chosen; and then the
 -- finish test, which reads it alone, asks whether nothing remains. A release stores the costs added up; a vertex that runs takes one off both sides;
 -- closing a gap moves work and remainings together.
-use Rattle.std.proofs.Common.{◌≡◌, ℕ, ◌+◌, ◌-◌, ◌*◌, ◌<◌, Bool, true, false, ◌&&◌, eqb, ltb, List, sym, refl, ap, ◌∙◌, arith, le-ltb, lt-ltb, eq-eqb, ne_eqb, eqb-true}
-use native.Mathlib.Decide.{dec_lt, ℕ_discrete}
-use Rattle.graph.specs.Words.{flag, pick, sum, all, is_in}
-use Rattle.graph.proofs.Facts.{sum_same, sum_none, sum_add, sum_at, all_at, all_of, off_when}
+use Rattle.std.proofs.Common.{◌≡◌, ℕ, ◌+◌, ◌-◌, ◌*◌, ◌<◌, Bool, true, false, ◌&&◌, eqb, ltb, List, sym, refl, ap, ◌∙◌, arith, le-ltb, lt-ltb}
+use native.Mathlib.Decide.{dec_lt}
+use Rattle.graph.specs.Words.{flag, pick, sum, is_in}
+use Rattle.graph.proofs.Facts.{sum_same, sum_none, sum_add}
 use Rattle.table.specs.declared.Table.{Table}
 use Rattle.table.specs.Memory.{cost}
 use Rattle.slots.proofs.Cases.{sum_zero}

@@ -12,11 +12,10 @@ use lib.Signed.{clash_ℤ}
 use borrow.Author.Tests.{ltb-true, ltb-false, ne_eqb}
 use Rattle.graph.specs.Words.{sum, row}
 use Rattle.graph.specs.Graph.{longest_of}
-use Rattle.graph.proofs.Facts.{sum_same, sum_upto, row_at}
 use Rattle.table.specs.declared.Table.{Table}
 use Rattle.table.specs.declared.Outcome.TheVariants.{Read}
 use Rattle.table.specs.declared.Loaded.{Loaded}
-use Rattle.table.specs.Memory.{vertices, D, T, succ, cost}
+use Rattle.table.specs.Memory.{D, T, succ}
 use Rattle.table.specs.Reading.{read}
 use Rattle.table.specs.Good.{GoodTable}
 use Rattle.table.proofs.PartLaws.{told_other}

@@ -1,7 +1,7 @@
 -- What was found of a file that is read is printable, and its lines are the report: shown once, over what is due for each task and the verdict,
 -- for the old figures and the sharp ones. Each figure of a good table has few digits, since the parts of a margin are below 10 to the 15.
 use mathlib.Core.Path.{◌≡◌, refl, sym, ap, ap₂, subst, ◌∙◌}
-use mathlib.Core.Logic.{◌⊎◌, ⊎_elim}
+use mathlib.Core.Logic.{⊎_elim}
 use mathlib.Core.Bool.{Bool, true, false, cond}
 use mathlib.Core.List.{List, ◌++◌}
 use Prim.Native.Nat.{ℕ, zero, suc, ◌+◌, ◌*◌, ◌-◌, ◌^◌, ◌≤◌, ◌<◌}
@@ -21,7 +21,7 @@ use Rattle.verdict.specs.declared.Verdict.{Verdict}
 use Rattle.verdict.specs.Verdicts.{vol, len, due, margin, verdict_on, figures_on, up_to, findings_on}
 use Rattle.verdict.proofs.Amounts.{vol_high, len_vol, due_bound, allowance_high, chain_high}
 use Rattle.verdict.proofs.Figured.{up_to_at}
-use Rattle.verdict.proofs.Says.{Refuses, Accepts, table_says}
+use Rattle.verdict.proofs.Says.{table_says}
 use Rattle.verdict.proofs.Named.{NamesChain, table_chain}
 use Rattle.sharp.specs.Sharp.{sharp_due, sharp_margin, sharp_on, sharp_figures_on, sharp_findings_on}
 use Rattle.sharp.proofs.Due.{sharp_within}

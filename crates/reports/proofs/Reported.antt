@@ -11,7 +11,6 @@ use Rattle.text.proofs.Laying.{laid_front}
 use Rattle.text.proofs.Putting.{put_same, put_long, zeros_behind}
 use Rattle.table.specs.declared.Outcome.{Outcome}
 use Rattle.table.specs.declared.Outcome.TheVariants.{Read, Short, Mark, Range, Ticks, Order, Edge, Cycle, Extra}
-use Rattle.table.specs.declared.Loaded.{Loaded}
 use Rattle.table.specs.Reading.{when_read, read}
 use Rattle.table.proofs.PartLaws.{told_other, not_read}
 use Rattle.table.proofs.Prefix.{read_prefix}

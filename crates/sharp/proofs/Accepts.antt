@@ -1,6 +1,6 @@
 -- What sharp number 0 says of a file, in natural numbers: it is read, as a good table, no chain is longer than its deadline and no sharp margin is
 -- negative. And EACH FILE THAT THE OLD VERDICT ACCEPTS, THE SHARP ONE ACCEPTS: no more is due, and a len above its D would have shown in the old margin.
-use mathlib.Core.Path.{◌≡◌, refl, sym, ap, ◌∙◌}
+use mathlib.Core.Path.{◌≡◌, ap, ◌∙◌}
 use mathlib.Core.Logic.{⊎_elim}
 use mathlib.Core.List.{List}
 use Prim.Native.Nat.{ℕ, ◌+◌, ◌*◌, ◌-◌, ◌≤◌, ◌<◌}
@@ -15,7 +15,7 @@ use Rattle.table.proofs.Sound.{read_good}
 use Rattle.verdict.specs.declared.Verdict.{Verdict}
 use Rattle.verdict.specs.Verdicts.{len, verdict}
 use Rattle.verdict.proofs.Margins.{not_negative, not_less, chain_fits}
-use Rattle.verdict.proofs.Accepts.{Enough, accepted}
+use Rattle.verdict.proofs.Accepts.{accepted}
 use Rattle.sharp.specs.Sharp.{sharp_due, sharp_margin, sharp_on, sharp}
 use Rattle.sharp.proofs.Due.{sharp_within}
 use Rattle.sharp.proofs.Says.{Soon, sharp_table_says, sharp_got, says_0}

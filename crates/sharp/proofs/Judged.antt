@@ -1,6 +1,6 @@
 -- Laws that the proofs of the code cite: what the closed form comes to over the rows of a good table is its sharp due work; the two searches over its tasks
 -- find what the definition names; what the code answers of a file.
-use mathlib.Core.Path.{◌≡◌, refl, sym, ap, ap₂, ◌∙◌}
+use mathlib.Core.Path.{◌≡◌, sym, ap, ap₂, ◌∙◌}
 use mathlib.Core.Bool.{true, false}
 use mathlib.Core.List.{List}
 use Prim.Native.Nat.{ℕ, ◌+◌, ◌*◌, ◌-◌, ◌^◌, ◌≤◌, ◌<◌, min}
@@ -15,7 +15,7 @@ use Rattle.table.specs.declared.Table.{Table}
 use Rattle.table.specs.declared.Outcome.TheVariants.{Read}
 use Rattle.table.specs.declared.Loaded.{Loaded}
 use Rattle.table.specs.Memory.{vertices, D, T, succ, cost}
-use Rattle.table.specs.Reading.{when_read, read}
+use Rattle.table.specs.Reading.{read}
 use Rattle.table.specs.Good.{GoodTable}
 use Rattle.table.proofs.PartLaws.{told_other, not_read}
 use Rattle.verdict.specs.declared.Decided.{Decided}

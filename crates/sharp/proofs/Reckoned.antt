@@ -2,14 +2,13 @@
 -- tasks and vertices.
 use mathlib.Core.Path.{◌≡◌, refl, sym, ap, ap₂, subst, ◌∙◌}
 use mathlib.Core.Logic.{⊎_elim}
-use mathlib.Core.Bool.{Bool, true, false}
+use mathlib.Core.Bool.{Bool, false}
 use mathlib.Core.List.{List}
 use Prim.Native.Nat.{ℕ, zero, suc, ◌+◌, ◌*◌, ◌-◌, ◌/◌, ◌%◌, ◌≤◌, ◌<◌, min, max}
 use native.Mathlib.Omega.{arith}
-use native.Mathlib.Nat.{mul_comm, mul-suc, mul-le-mul, mul-le-mul_left, mod-le, div-le_self}
+use native.Mathlib.Nat.{mul-suc, mul-le-mul, mul-le-mul_left, div-le_self}
 use native.Mathlib.Numerals.{add-one}
 use native.Mathlib.Decide.{ℕ_discrete}
-use lib.Dec.{ltb}
 use lib.ListN.{length, get_or, set, length-set}
 use lib.Seq.{get_or-set_same, get_or-set_other}
 use borrow.Author.Tests.{lt-ltb, le-ltb}

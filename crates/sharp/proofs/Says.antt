@@ -2,12 +2,12 @@
 -- looked for over all tasks before any 23. True by the definition's three searches; the walk over margins is the old verdict's.
 use mathlib.Core.Path.{◌≡◌, refl, sym, ap, subst, ◌∙◌}
 use mathlib.Core.Logic.{◌⊎◌, inl, inr, ⊎_elim}
-use mathlib.Core.Bool.{Bool, true, false}
+use mathlib.Core.Bool.{Bool, false}
 use mathlib.Core.List.{List}
 use Prim.Native.Nat.{ℕ, ◌≤◌, ◌<◌}
 use native.Mathlib.Omega.{arith}
 use lib.Dec.{ltb}
-use lib.IntN.{ℤ, pos}
+use lib.IntN.{pos}
 use lib.Signed.{◌≤ℤ◌, ◌<ℤ◌}
 use borrow.Author.Tests.{ltb-true, ltb-false}
 use Rattle.graph.specs.Words.{row_from, row}

@@ -5,8 +5,8 @@ use mathlib.Core.Path.{◌≡◌, refl, sym, ap, ap₂, ◌∙◌}
 use mathlib.Core.Bool.{Bool, true, false}
 use Prim.Native.Nat.{ℕ, zero, suc, ◌+◌, ◌*◌, ◌-◌, ◌/◌, ◌%◌, ◌≤◌, ◌<◌, min}
 use native.Mathlib.Omega.{arith}
-use native.Mathlib.Nat.{mul_comm, mul-suc, mul-add, add-mul, mul-le-mul_left, mul-le-mul_right, mod-lt, mod-le, div-add-mod', le-div_iff_mul-le, add-mul-div_left}
-use native.Mathlib.Decide.{dec_lt, dec_le}
+use native.Mathlib.Nat.{mul_comm, mul-suc, mul-add, add-mul, mul-le-mul_right, mod-lt, mod-le, div-add-mod', le-div_iff_mul-le, add-mul-div_left}
+use native.Mathlib.Decide.{dec_le}
 use lib.Dec.{ltb}
 use borrow.Author.Tests.{ltb-true, ltb-false}
 use Rattle.graph.specs.Words.{pick, sum}

@@ -1,9 +1,9 @@
 -- TAILS of a good table's tasks: along an edge a tail falls by the cost of the vertex that the edge leads to, at least; it is 0, or just that of a
 -- successor; with the vertex's own cost it is within len, and for one vertex it is len. True by the laws of the crate chains: a good table's
 -- task has at most sixteen vertices and no cycle.
-use mathlib.Core.Path.{◌≡◌, refl, sym, ap, ap₂, ◌∙◌}
+use mathlib.Core.Path.{◌≡◌, sym, ap, ap₂, ◌∙◌}
 use mathlib.Core.Logic.{◌⊎◌}
-use mathlib.Core.Bool.{Bool, true, false}
+use mathlib.Core.Bool.{true}
 use mathlib.Core.List.{List}
 use Prim.Native.Nat.{ℕ, ◌+◌, ◌*◌, ◌≤◌, ◌<◌}
 use native.Mathlib.Omega.{arith}

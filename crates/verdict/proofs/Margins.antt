@@ -7,7 +7,7 @@ use Prim.Native.Nat.{ℕ, zero, suc, ◌+◌, ◌*◌, ◌-◌, ◌≤◌, ◌<�
 use native.Mathlib.Omega.{arith}
 use native.Mathlib.Nat.{mul-suc, mul-add, mul_comm, mul-le-mul_left, mul-le-mul_right}
 use native.Mathlib.Decide.{dec_le}
-use lib.Dec.{T, ltb, leb, le→leb}
+use lib.Dec.{T, ltb, le→leb}
 use lib.IntN.{ℤ, pos, negsuc, neg_ℤ, ◌+ℤ◌, ◌-ℤ◌, -ℤ-+ℤ_cancel}
 use lib.Signed.{le_z, ◌≤ℤ◌}
 use borrow.Author.Tests.{ltb-true, ltb-false}
@@ -17,7 +17,7 @@ use Rattle.table.specs.Memory.{D}
 use Rattle.table.specs.Reading.{read}
 use Rattle.table.specs.Good.{GoodTable}
 use Rattle.table.proofs.Sound.{read_good}
-use Rattle.verdict.specs.Verdicts.{vol, len, due, margin}
+use Rattle.verdict.specs.Verdicts.{len, due, margin}
 use Rattle.verdict.proofs.Amounts.{vol_high, len_vol, vol_due, due_high, allowance_high}
 
 -- ---- a difference of two numbers, and its order

@@ -1,9 +1,6 @@
-use mathlib.Core.Path.{◌≡◌, refl}
-use mathlib.Core.Bool.{true}
-use Prim.Native.Nat.{◌+◌, ◌-◌, ◌≤◌}
+use mathlib.Core.Path.{refl}
+use Prim.Native.Nat.{◌+◌}
 use native.Mathlib.Omega.{arith}
-use lib.Dec.{ltb}
-use borrow.Author.Rules.{rules}
 use borrow.Author.Tests.{lt-ltb, le-ltb}
 use Rattle.graph.specs.Words.{all}
 use Rattle.slots.proofs.Behind.{all_more, all_off, all_done_lem}

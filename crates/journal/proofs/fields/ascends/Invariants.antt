@@ -1,13 +1,9 @@
-use mathlib.Core.Path.{◌≡◌, refl}
+use mathlib.Core.Path.{◌≡◌}
 use mathlib.Core.Bool.{true}
 use Prim.Native.Nat.{◌+◌, ◌-◌, ◌≤◌}
-use native.Mathlib.Omega.{arith}
 use lib.Dec.{ltb}
-use borrow.Author.Rules.{rules}
-use borrow.Author.Tests.{lt-ltb, le-ltb}
 use Rattle.graph.specs.Words.{all}
-use Rattle.slots.proofs.Behind.{all_more, all_off, all_done_lem}
-use Rattle.journal.specs.Rows.{row_end, row_triple, ascending}
+use Rattle.journal.specs.Rows.{row_triple}
 use Rattle.journal.proofs.fields.ascends.Given as goal
 
 abbrev pub invariant-loop-j : goal.invariant-loop-j

@@ -1,5 +1,4 @@
 use native.Mathlib.Omega.{arith}
-use borrow.Author.Rules.{rules}
 use Rattle.journal.specs.Rows.{row_end}
 use Rattle.journal.proofs.fields.end_at.Goals as goal
 

@@ -1,6 +1,5 @@
 use mathlib.Core.Bool.{not}
 use native.Mathlib.Omega.{arith}
-use borrow.Author.Rules.{rules}
 use Rattle.journal.specs.Rows.{row_count, row_end, ascending}
 use Rattle.journal.proofs.RowTests.{too_many, not_many}
 use Rattle.journal.proofs.fields.is_bad_list.Goals as goal

@@ -1,5 +1,4 @@
 use native.Mathlib.Omega.{arith}
-use borrow.Author.Rules.{rules}
 use Rattle.journal.proofs.RowTests.{cut_head, cut_triples}
 use Rattle.journal.proofs.fields.is_cut.Goals as goal
 

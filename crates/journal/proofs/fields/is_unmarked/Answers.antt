@@ -1,5 +1,4 @@
 use native.Mathlib.Omega.{arith}
-use borrow.Author.Rules.{rules}
 use Rattle.journal.proofs.RowTests.{mark_first, mark_second}
 use Rattle.journal.proofs.fields.is_unmarked.Goals as goal
 

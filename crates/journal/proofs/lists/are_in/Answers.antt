@@ -1,11 +1,8 @@
-use mathlib.Core.Path.{◌≡◌, refl, ◌∙◌}
-use mathlib.Core.Bool.{true}
-use Prim.Native.Nat.{◌-◌, ◌≤◌}
+use mathlib.Core.Path.{refl, ◌∙◌}
 use native.Mathlib.Omega.{arith}
-use borrow.Author.Rules.{rules}
 use Rattle.graph.specs.Words.{all}
-use Rattle.journal.specs.Rows.{row_task, row_age, row_vertex, row_end}
-use Rattle.journal.specs.Listing.{in_set, all_in}
+use Rattle.journal.specs.Rows.{row_end}
+use Rattle.journal.specs.Listing.{all_in}
 use Rattle.slots.proofs.Behind.{all_more, all_off, all_done_lem}
 use Rattle.journal.proofs.SetTests.{in_by}
 use Rattle.journal.proofs.lists.are_in.Goals as goal

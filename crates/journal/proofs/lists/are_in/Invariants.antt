@@ -1,14 +1,9 @@
-use mathlib.Core.Path.{◌≡◌, refl, ◌∙◌}
+use mathlib.Core.Path.{◌≡◌}
 use mathlib.Core.Bool.{true}
 use Prim.Native.Nat.{◌-◌, ◌≤◌}
-use native.Mathlib.Omega.{arith}
-use borrow.Author.Rules.{rules}
-use borrow.Author.Tests.{not-true, not-false}
 use Rattle.graph.specs.Words.{all}
-use Rattle.journal.specs.Rows.{row_task, row_age, row_vertex, row_end}
-use Rattle.journal.specs.Listing.{in_set, all_in}
-use Rattle.slots.proofs.Behind.{all_more, all_off, all_done_lem}
-use Rattle.journal.proofs.SetTests.{in_by}
+use Rattle.journal.specs.Rows.{row_task, row_age, row_vertex}
+use Rattle.journal.specs.Listing.{in_set}
 use Rattle.journal.proofs.lists.are_in.Given as goal
 
 abbrev pub invariant-loop-j : goal.invariant-loop-j

@@ -1,8 +1,7 @@
-use mathlib.Core.Path.{◌≡◌, refl, sym, ap, subst, ◌∙◌}
-use Prim.Native.Nat.{ℕ, ◌-◌, ◌≤◌}
+use mathlib.Core.Path.{◌≡◌, refl, subst, ◌∙◌}
+use Prim.Native.Nat.{ℕ}
 use native.Mathlib.Omega.{arith}
-use borrow.Author.Rules.{rules}
-use lib.ListN.{length, length-set}
+use lib.ListN.{length-set}
 use Rattle.journal.specs.Rows.{row_end}
 use Rattle.journal.proofs.SetTests.{KeptTo, one_kept, all_kept}
 use Rattle.journal.proofs.lists.chosen_at.Goals as goal

@@ -1,10 +1,7 @@
-use mathlib.Core.Path.{◌≡◌, refl, sym, ap, subst, ◌∙◌}
-use Prim.Native.Nat.{ℕ, ◌-◌, ◌≤◌}
-use native.Mathlib.Omega.{arith}
-use borrow.Author.Rules.{rules}
-use lib.ListN.{length, length-set}
-use Rattle.journal.specs.Rows.{row_end}
-use Rattle.journal.proofs.SetTests.{KeptTo, one_kept, all_kept}
+use mathlib.Core.Path.{◌≡◌}
+use Prim.Native.Nat.{◌-◌, ◌≤◌}
+use lib.ListN.{length}
+use Rattle.journal.proofs.SetTests.{KeptTo}
 use Rattle.journal.proofs.lists.chosen_at.Given as goal
 
 abbrev pub invariant-loop-j : goal.invariant-loop-j

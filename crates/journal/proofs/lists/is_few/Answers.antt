@@ -2,7 +2,6 @@ use mathlib.Core.Path.{ap, ◌∙◌}
 use Prim.Native.Nat.{ℕ, min}
 use lib.Dec.{ltb}
 use native.Mathlib.Omega.{arith}
-use borrow.Author.Rules.{rules}
 use Rattle.journal.proofs.RowTests.{few_not, few_by}
 use Rattle.journal.proofs.lists.is_few.Goals as goal
 

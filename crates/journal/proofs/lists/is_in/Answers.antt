@@ -1,5 +1,4 @@
 use native.Mathlib.Omega.{arith}
-use borrow.Author.Rules.{rules}
 use Rattle.graph.specs.Words.{bit}
 use Rattle.journal.proofs.SetTests.{no_task_past, no_age, no_vertex, in_set_lem}
 use Rattle.journal.proofs.lists.is_in.Goals as goal

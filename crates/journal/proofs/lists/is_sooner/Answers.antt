@@ -1,10 +1,7 @@
-use mathlib.Core.Path.{◌≡◌, refl, ap}
-use mathlib.Core.Bool.{true, ◌||◌, not}
-use Prim.Native.Nat.{◌-◌, ◌≤◌}
+use mathlib.Core.Path.{refl, ap}
+use mathlib.Core.Bool.{not}
 use native.Mathlib.Omega.{arith}
-use borrow.Author.Rules.{rules}
 use lib.ListN.{get_or}
-use lib.Dec.{leb, eqb}
 use Rattle.graph.specs.Words.{all}
 use Rattle.slots.proofs.Behind.{all_more, all_off, all_done_lem}
 use Rattle.journal.proofs.RowTests.{no_later, later_ticks, later_none}

@@ -1,15 +1,9 @@
-use mathlib.Core.Path.{◌≡◌, refl, ap}
-use mathlib.Core.Logic.{⊎_elim}
-use mathlib.Core.Bool.{true, ◌||◌, not}
+use mathlib.Core.Path.{◌≡◌}
+use mathlib.Core.Bool.{true, ◌||◌}
 use Prim.Native.Nat.{◌-◌, ◌≤◌}
-use native.Mathlib.Omega.{arith}
-use borrow.Author.Rules.{rules}
-use borrow.Author.Tests.{ltb-true, ltb-false}
 use lib.ListN.{get_or}
 use lib.Dec.{leb, eqb}
 use Rattle.graph.specs.Words.{all}
-use Rattle.slots.proofs.Behind.{all_more, all_off, all_done_lem}
-use Rattle.journal.proofs.RowTests.{no_later, later_ticks, later_none}
 use Rattle.journal.proofs.lists.is_sooner.Given as goal
 
 abbrev pub invariant-loop-k : goal.invariant-loop-k

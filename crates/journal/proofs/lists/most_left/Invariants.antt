@@ -1,13 +1,8 @@
-use mathlib.Core.Path.{◌≡◌, refl, sym, ap, ◌∙◌}
-use Prim.Native.Nat.{ℕ, ◌+◌, ◌-◌, ◌≤◌, max}
-use native.Mathlib.Numerals.{add-one}
-use native.Mathlib.Omega.{arith}
-use borrow.Author.Rules.{rules}
+use mathlib.Core.Path.{◌≡◌}
+use Prim.Native.Nat.{◌-◌, ◌≤◌}
 use lib.ListN.{get_or}
 use Rattle.graph.specs.Words.{largest}
-use Rattle.journal.specs.Rows.{row_count, row_end}
 use Rattle.journal.specs.Listing.{row_slot}
-use Rattle.journal.proofs.SetTests.{slot_small}
 use Rattle.journal.proofs.lists.most_left.Given as goal
 
 abbrev pub invariant-loop-j : goal.invariant-loop-j

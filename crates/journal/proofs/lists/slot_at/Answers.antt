@@ -1,5 +1,4 @@
 use native.Mathlib.Omega.{arith}
-use borrow.Author.Rules.{rules}
 use Rattle.journal.specs.Listing.{row_slot}
 use Rattle.journal.proofs.lists.slot_at.Goals as goal
 

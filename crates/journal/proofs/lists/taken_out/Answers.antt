@@ -1,5 +1,4 @@
 use Rattle.graph.proofs.Bits.{one_less}
-use borrow.Author.Rules.{rules}
 use Rattle.journal.proofs.lists.taken_out.Goals as goal
 
 pub returns : goal.returns

@@ -1,11 +1,8 @@
-use mathlib.Core.Path.{◌≡◌, refl, sym, ap, ap₂, ◌∙◌}
-use Prim.Native.Nat.{ℕ, ◌+◌, ◌*◌, ◌-◌, ◌≤◌}
-use native.Mathlib.Omega.{arith}
-use borrow.Author.Rules.{rules}
+use mathlib.Core.Path.{◌≡◌}
+use Prim.Native.Nat.{◌*◌, ◌-◌, ◌≤◌}
 use lib.ListN.{get_or}
 use lib.Count.{ones}
 use Rattle.graph.specs.Words.{sum}
-use Rattle.journal.proofs.Counted.{sum_next}
 use Rattle.journal.proofs.lists.total.Given as goal
 
 abbrev pub invariant-loop-k : goal.invariant-loop-k

@@ -1,10 +1,10 @@
-use mathlib.Core.Path.{◌≡◌, sym, ap, ◌∙◌}
-use Prim.Native.Nat.{ℕ, ◌+◌, ◌*◌, ◌-◌, ◌≤◌}
+use mathlib.Core.Path.{sym, ap, ◌∙◌}
+use Prim.Native.Nat.{ℕ, ◌+◌, ◌*◌}
 use native.Mathlib.Omega.{arith}
 use borrow.Author.Rules.{rules}
 use Rattle.journal.specs.Rows.{row_task, row_age, row_key, row_end, listed}
 use Rattle.journal.specs.Listing.{AreVertices, row_slot}
-use Rattle.journal.proofs.SetTests.{TakenTo, none_taken, one_taken, all_taken, listed_length, listed_at, slot_small}
+use Rattle.journal.proofs.SetTests.{none_taken, one_taken, all_taken, listed_length, listed_at, slot_small}
 use Rattle.journal.proofs.lists.unlisted.Goals as goal
 
 pub count_at-count-requires : goal.count_at-count-requires

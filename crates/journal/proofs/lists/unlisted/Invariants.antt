@@ -1,10 +1,6 @@
-use mathlib.Core.Path.{◌≡◌, sym, ap, ◌∙◌}
-use Prim.Native.Nat.{ℕ, ◌+◌, ◌*◌, ◌-◌, ◌≤◌}
-use native.Mathlib.Omega.{arith}
-use borrow.Author.Rules.{rules}
-use Rattle.journal.specs.Rows.{row_task, row_age, row_key, row_end, listed}
-use Rattle.journal.specs.Listing.{AreVertices, row_slot}
-use Rattle.journal.proofs.SetTests.{TakenTo, none_taken, one_taken, all_taken, listed_length, listed_at, slot_small}
+use Prim.Native.Nat.{◌-◌, ◌≤◌}
+use Rattle.journal.specs.Rows.{listed}
+use Rattle.journal.proofs.SetTests.{TakenTo}
 use Rattle.journal.proofs.lists.unlisted.Given as goal
 
 abbrev pub invariant-loop-j : goal.invariant-loop-j

@@ -6,14 +6,13 @@ use lib.ListN.{get_or}
 use lib.Dec.{ltb}
 use lib.Count.{ones}
 use native.Mathlib.Omega.{arith}
-use borrow.Author.Rules.{rules}
 use Rattle.graph.specs.Words.{sum}
 use Rattle.table.specs.declared.Table.{Table}
 use Rattle.machine.specs.declared.State.{State}
 use Rattle.machine.specs.declared.Offer.{Offer}
 use Rattle.machine.specs.Steps.{released, offered}
 use Rattle.journal.specs.Listing.{all_in}
-use Rattle.journal.specs.Rows.{row_count, row_end, listed, not_available, too_few, passes_over}
+use Rattle.journal.specs.Rows.{row_count, row_end, not_available, too_few}
 use Rattle.journal.proofs.SetTests.{all_in_lem}
 use Rattle.journal.proofs.Counted.{all_counted}
 use Rattle.journal.proofs.RowFaults.{choice_44, choice_45, choice_46, choice_0, few_is, offered_sets, offered_left}

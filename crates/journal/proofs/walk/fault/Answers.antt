@@ -2,7 +2,6 @@ use mathlib.Core.Path.{refl, sym, ◌∙◌}
 use Prim.Native.Nat.{◌≤◌}
 use lib.ListN.{length}
 use native.Mathlib.Omega.{arith}
-use borrow.Author.Rules.{rules}
 use Rattle.journal.specs.Rows.{row_set, row_end}
 use Rattle.journal.proofs.RowFaults.{offered_of}
 use Rattle.journal.proofs.walk.fault.Goals as goal

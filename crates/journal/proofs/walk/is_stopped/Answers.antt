@@ -1,5 +1,4 @@
 use mathlib.Core.Path.{sym, ap}
-use borrow.Author.Rules.{rules}
 use Rattle.journal.specs.Rows.{is_stopped}
 use Rattle.journal.proofs.walk.is_stopped.Goals as goal
 

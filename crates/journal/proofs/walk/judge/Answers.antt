@@ -1,4 +1,3 @@
-use borrow.Author.Rules.{rules}
 use Rattle.journal.proofs.Entries.{entry-laws}
 use Rattle.journal.proofs.walk.judge.Goals as goal
 

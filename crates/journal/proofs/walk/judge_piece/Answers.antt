@@ -1,5 +1,4 @@
 use mathlib.Core.Path.{sym, ◌∙◌}
-use borrow.Author.Rules.{rules}
 use Rattle.journal.proofs.Entries.{not_wide, piece_stop, piece_got}
 use Rattle.journal.proofs.walk.judge_piece.Goals as goal
 

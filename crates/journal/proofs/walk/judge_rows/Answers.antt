@@ -1,8 +1,8 @@
-use mathlib.Core.Path.{◌≡◌, refl, sym, ◌∙◌}
-use Prim.Native.Nat.{◌-◌, ◌≤◌, ◌<◌}
+use mathlib.Core.Path.{refl, sym, ◌∙◌}
+use Prim.Native.Nat.{◌≤◌, ◌<◌}
 use native.Mathlib.Omega.{arith}
 use Rattle.journal.specs.Rows.{row_end}
-use Rattle.journal.specs.Judging.{judge_rows, start}
+use Rattle.journal.specs.Judging.{start}
 use Rattle.journal.proofs.Passing.{passes, in_whole}
 use Rattle.journal.proofs.Going.{over_end, rows_over, rows_refused, rows_passed}
 use Rattle.journal.proofs.walk.judge_rows.Goals as goal

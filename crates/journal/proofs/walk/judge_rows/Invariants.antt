@@ -1,10 +1,6 @@
-use mathlib.Core.Path.{◌≡◌, refl, sym, ◌∙◌}
-use Prim.Native.Nat.{◌-◌, ◌≤◌, ◌<◌}
-use native.Mathlib.Omega.{arith}
-use Rattle.journal.specs.Rows.{row_end}
+use mathlib.Core.Path.{◌≡◌}
+use Prim.Native.Nat.{◌-◌, ◌≤◌}
 use Rattle.journal.specs.Judging.{judge_rows, start}
-use Rattle.journal.proofs.Passing.{passes, in_whole}
-use Rattle.journal.proofs.Going.{over_end, rows_over, rows_refused, rows_passed}
 use Rattle.journal.proofs.walk.judge_rows.Given as goal
 
 abbrev pub invariant-loop-next : goal.invariant-loop-next

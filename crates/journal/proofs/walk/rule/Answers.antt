@@ -1,6 +1,5 @@
 use mathlib.Core.Path.{refl, ap}
 use mathlib.Core.Bool.{Bool}
-use borrow.Author.Rules.{rules}
 use borrow.Author.Tests.{eq-eqb, ne_eqb}
 use Rattle.journal.specs.Judging.{ruling}
 use Rattle.journal.proofs.walk.rule.Goals as goal

@@ -4,10 +4,9 @@ use Prim.Native.Nat.{ℕ, ◌≤◌}
 use lib.ListN.{length}
 use lib.Dec.{ltb, leb}
 use native.Mathlib.Omega.{arith}
-use borrow.Author.Rules.{rules}
 use Rattle.graph.specs.Words.{bit, lowest}
 use Rattle.machine.specs.States.{wait}
-use Rattle.journal.specs.Rows.{row_set, row_end, is_stopped, cut_short, wrong_mark, bad_list}
+use Rattle.journal.specs.Rows.{row_end, is_stopped, cut_short, wrong_mark, bad_list}
 use Rattle.journal.proofs.RowFaults.{is_whole, stopped_47, cut_40, mark_41, list_42, beyond_31, early_33, set_passes, none_named}
 use Rattle.journal.proofs.walk.set_fault.Goals as goal
 

@@ -1,6 +1,5 @@
 use mathlib.Core.Path.{ap}
 use native.Mathlib.Omega.{arith}
-use borrow.Author.Rules.{rules}
 use Rattle.machine.specs.declared.Ticked.{Ticked}
 use Rattle.journal.specs.Rows.{row_set, row_end, listed}
 use Rattle.journal.proofs.Passing.{passes, in_whole, count_low}

@@ -1,7 +1,6 @@
 use mathlib.Core.Path.{ap₂}
 use Prim.Native.Nat.{ℕ}
 use mathlib.Core.Bool.{false}
-use borrow.Author.Rules.{rules}
 use Rattle.journal.specs.Judging.{unread}
 use Rattle.journal.proofs.walk.unreadable.Goals as goal
 

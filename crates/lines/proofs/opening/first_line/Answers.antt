@@ -1,5 +1,4 @@
 use Rattle.lines.proofs.Lined.{line-laws}
-use borrow.Author.Rules.{rules}
 use Rattle.lines.proofs.opening.first_line.Goals as goal
 
 pub returns-in_default : goal.returns-in_default

@@ -1,5 +1,4 @@
 use Rattle.lines.proofs.Lined.{open_put}
-use borrow.Author.Rules.{rules}
 use Rattle.lines.proofs.opening.open_line.Goals as goal
 
 pub returns : goal.returns

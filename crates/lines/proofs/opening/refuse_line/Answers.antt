@@ -4,7 +4,6 @@ use Prim.Native.Nat.{ℕ}
 use Rattle.text.specs.Text.{text, decimal}
 use Rattle.lines.specs.Lines.{refuse_line}
 use Rattle.text.proofs.Putting.{put_then, put_same}
-use borrow.Author.Rules.{rules}
 use Rattle.lines.proofs.opening.refuse_line.Goals as goal
 
 pub returns : goal.returns

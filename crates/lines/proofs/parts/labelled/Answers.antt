@@ -1,6 +1,5 @@
 use native.Mathlib.Omega.{arith}
 use Rattle.text.proofs.Putting.{put_then, put_on, decimal_within}
-use borrow.Author.Rules.{rules}
 use Rattle.lines.proofs.parts.labelled.Goals as goal
 
 pub overflow_add-result : goal.overflow_add-result

@@ -1,13 +1,8 @@
 -- The invariant: the tasks below i are put.
-use mathlib.Core.Path.{◌≡◌, ap, ◌∙◌}
-use Prim.Native.Nat.{ℕ, ◌+◌, ◌*◌, ◌-◌, ◌≤◌}
-use native.Mathlib.Omega.{arith}
+use Prim.Native.Nat.{◌+◌, ◌*◌, ◌-◌, ◌≤◌}
 use Rattle.graph.specs.Words.{in_order}
-use borrow.Author.Rules.{rules}
 use Rattle.text.specs.Laid.{Put}
-use Rattle.lines.specs.Lines.{number_in, numbers_in}
-use Rattle.text.proofs.Putting.{put_same, put_none, put_then, put_long, none_before, one_more_lem}
-use Rattle.lines.proofs.Parted.{put_dash}
+use Rattle.lines.specs.Lines.{number_in}
 use Rattle.lines.proofs.parts.numbers_in.Given as goal
 
 abbrev pub invariant-loop-i : goal.invariant-loop-i

@@ -1,10 +1,7 @@
 use mathlib.Core.Path.{◌≡◌, ◌∙◌}
-use Prim.Native.Nat.{◌+◌, ◌*◌, ◌-◌, ◌≤◌}
 use native.Mathlib.Omega.{arith}
-use lib.ListN.{length, take}
+use lib.ListN.{length}
 use borrow.Author.Rules.{rules}
-use Rattle.text.specs.Laid.{Put}
-use Rattle.lines.specs.Lines.{vertices_text}
 use Rattle.text.proofs.Putting.{put_same, put_none, put_then, put_long}
 use Rattle.lines.proofs.Parted.{put_dash, no_vertex, one_vertex, all_vertices}
 use Rattle.lines.proofs.parts.vertices.Goals as goal

@@ -1,4 +1,3 @@
-use mathlib.Core.Path.{◌∙◌}
 use mathlib.Core.List.{append_assoc}
 use native.Mathlib.Omega.{arith}
 use Rattle.text.specs.Text.{text}

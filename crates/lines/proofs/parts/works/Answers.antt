@@ -1,9 +1,7 @@
 use mathlib.Core.Path.{◌≡◌, ap, ◌∙◌}
-use Prim.Native.Nat.{ℕ, ◌+◌, ◌*◌, ◌-◌, ◌≤◌}
+use Prim.Native.Nat.{ℕ}
 use native.Mathlib.Omega.{arith}
 use Rattle.graph.specs.Words.{in_order}
-use borrow.Author.Rules.{rules}
-use Rattle.text.specs.Laid.{Put}
 use Rattle.lines.specs.Lines.{work_in}
 use Rattle.text.proofs.Putting.{put_same, put_none, put_then, put_long, none_before}
 use Rattle.lines.proofs.Parted.{put_dash, one_work}

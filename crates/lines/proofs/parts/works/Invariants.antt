@@ -1,13 +1,8 @@
 -- The invariant: the first c jobs are put.
-use mathlib.Core.Path.{◌≡◌, ap, ◌∙◌}
-use Prim.Native.Nat.{ℕ, ◌+◌, ◌*◌, ◌-◌, ◌≤◌}
-use native.Mathlib.Omega.{arith}
+use Prim.Native.Nat.{◌+◌, ◌*◌, ◌-◌, ◌≤◌}
 use Rattle.graph.specs.Words.{in_order}
-use borrow.Author.Rules.{rules}
 use Rattle.text.specs.Laid.{Put}
 use Rattle.lines.specs.Lines.{work_in}
-use Rattle.text.proofs.Putting.{put_same, put_none, put_then, put_long, none_before}
-use Rattle.lines.proofs.Parted.{put_dash, one_work}
 use Rattle.lines.proofs.parts.works.Given as goal
 
 abbrev pub invariant-loop-c : goal.invariant-loop-c

@@ -3,7 +3,6 @@ use Rattle.text.specs.Text.{text}
 use Rattle.text.proofs.Putting.{put_same}
 use Rattle.lines.specs.Rulings.{unread_line, refused_line}
 use Rattle.lines.proofs.Rulings.{line_legal, line_unread, line_refused}
-use borrow.Author.Rules.{rules}
 use Rattle.lines.proofs.ruling.line.Goals as goal
 
 pub returns-then-r-eq0 : goal.returns-then-r-eq0

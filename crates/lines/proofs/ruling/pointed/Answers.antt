@@ -2,7 +2,6 @@ use mathlib.Core.List.{◌++◌}
 use Rattle.text.specs.Text.{newline, decimal}
 use Rattle.text.proofs.Putting.{put_then, put_same}
 use Rattle.lines.proofs.Rulings.{joined}
-use borrow.Author.Rules.{rules}
 use Rattle.lines.proofs.ruling.pointed.Goals as goal
 
 pub returns : goal.returns

@@ -1,5 +1,4 @@
 use Rattle.lines.proofs.Rulings.{ruling_put}
-use borrow.Author.Rules.{rules}
 use Rattle.lines.proofs.ruling.ruling_line.Goals as goal
 
 pub returns : goal.returns

@@ -1,6 +1,5 @@
 use native.Mathlib.Omega.{arith}
 use Rattle.lines.proofs.Steps.{four_bytes}
-use borrow.Author.Rules.{rules}
 use Rattle.lines.proofs.showing.clock_of.Goals as goal
 
 pub returns : goal.returns

@@ -1,5 +1,4 @@
 use Rattle.lines.proofs.Steps.{opening_shown}
-use borrow.Author.Rules.{rules}
 use Rattle.lines.proofs.showing.show_opening.Goals as goal
 
 pub returns : goal.returns

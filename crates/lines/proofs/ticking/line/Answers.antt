@@ -2,7 +2,6 @@ use mathlib.Core.List.{append_assoc}
 use Rattle.text.specs.Text.{text}
 use Rattle.lines.specs.Lines.{tick_line}
 use Rattle.text.proofs.Putting.{put_then, put_same}
-use borrow.Author.Rules.{rules}
 use Rattle.lines.proofs.ticking.line.Goals as goal
 
 pub returns : goal.returns

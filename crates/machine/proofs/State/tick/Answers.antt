@@ -1,4 +1,3 @@
-use Rattle.std.proofs.Common.{rules}
 use Rattle.machine.proofs.Starting.{tick-laws}
 use Rattle.machine.proofs.State.tick.Goals as goal
 

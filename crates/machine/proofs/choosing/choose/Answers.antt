@@ -1,6 +1,6 @@
-use Rattle.std.proofs.Common.{◌≡◌, ◌-◌, ◌≤◌, length, refl, arith, rules}
+use Rattle.std.proofs.Common.{◌≡◌, length, refl, arith, rules}
 use Rattle.machine.proofs.Among.{some_all, some_here}
-use Rattle.machine.proofs.Picking.{Chooses, chooses_none, chooses_one, m_chosen, all_chosen}
+use Rattle.machine.proofs.Picking.{chooses_none, chooses_one, m_chosen, all_chosen}
 use Rattle.machine.proofs.choosing.choose.Goals as goal
 
 pub loop-count-init : goal.loop-count-init

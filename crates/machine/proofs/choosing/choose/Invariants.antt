@@ -1,7 +1,6 @@
 -- The loop's invariant: `count` of the ranking were picked, the sets hold the others, and `among` the slots whose set has a member.
-use Rattle.std.proofs.Common.{◌≡◌, ◌-◌, ◌≤◌, length, refl, arith, rules}
-use Rattle.machine.proofs.Among.{some_all, some_here}
-use Rattle.machine.proofs.Picking.{Chooses, chooses_none, chooses_one, m_chosen, all_chosen}
+use Rattle.std.proofs.Common.{◌-◌, ◌≤◌}
+use Rattle.machine.proofs.Picking.{Chooses}
 use Rattle.machine.proofs.choosing.choose.Given as goal
 
 abbrev pub invariant-loop-count : goal.invariant-loop-count

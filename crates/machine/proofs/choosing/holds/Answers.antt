@@ -1,4 +1,4 @@
-use Rattle.std.proofs.Common.{◌≡◌, ℕ, ◌-◌, ◌≤◌, length, take, drop, sym, refl, ap, ◌∙◌, arith, length-take, get_or-take, rules}
+use Rattle.std.proofs.Common.{◌≡◌, ℕ, length, take, drop, sym, refl, ap, ◌∙◌, arith, length-take, get_or-take, rules}
 use lib.Seq.{drop-length}
 use Rattle.graph.specs.Words.{is_in}
 use Rattle.machine.proofs.Once.{look, hit}

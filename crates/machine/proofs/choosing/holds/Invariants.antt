@@ -1,8 +1,6 @@
 -- What is left to look at decides as all of it does.
-use Rattle.std.proofs.Common.{◌≡◌, ℕ, ◌-◌, ◌≤◌, length, take, drop, sym, refl, ap, ◌∙◌, arith, length-take, get_or-take, rules}
-use lib.Seq.{drop-length}
+use Rattle.std.proofs.Common.{◌≡◌, ◌-◌, ◌≤◌, take, drop}
 use Rattle.graph.specs.Words.{is_in}
-use Rattle.machine.proofs.Once.{look, hit}
 use Rattle.machine.proofs.choosing.holds.Given as goal
 
 abbrev pub invariant-loop-i : goal.invariant-loop-i

@@ -1,5 +1,5 @@
 -- Where the slot's own set has a member nothing changes; otherwise the slot goes.
-use Rattle.std.proofs.Common.{arith, rules}
+use Rattle.std.proofs.Common.{arith}
 use Rattle.machine.proofs.Among.{narrow_none, narrow_one}
 use Rattle.machine.proofs.choosing.narrowed.Goals as goal
 

@@ -1,8 +1,5 @@
 -- The best so far ranks first of the members passed.
-use Rattle.std.proofs.Common.{ℕ, ◌-◌, sym, ◌∙◌, subst, ⊎_elim, arith, rules}
-use lib.Bits.{bit_and}
-use Rattle.machine.proofs.Sweeping.{falls}
-use Rattle.machine.proofs.Leading.{Leads, leads_one, leads_new, leads_still, leads_all}
+use Rattle.machine.proofs.Leading.{Leads}
 use Rattle.machine.proofs.choosing.next_slot.Given as goal
 
 abbrev pub invariant-loop-rest : goal.invariant-loop-rest

@@ -1,7 +1,7 @@
-use Rattle.std.proofs.Common.{◌≡◌, ℕ, ◌-◌, ◌%◌, ◌<◌, ◌≤◌, List, length, get_or, sym, refl, ap, ◌∙◌, arith, rules}
-use Rattle.graph.specs.Words.{row, is_in}
+use Rattle.std.proofs.Common.{◌≡◌, ℕ, ◌%◌, ◌<◌, List, length, get_or, sym, refl, ap, ◌∙◌, arith, rules}
+use Rattle.graph.specs.Words.{is_in}
 use Rattle.graph.proofs.Facts.{length_row, row_at}
-use Rattle.machine.proofs.Once.{Once, once_none, once_new, once_again, once_all}
+use Rattle.machine.proofs.Once.{once_none, once_new, once_again, once_all}
 use Rattle.machine.proofs.choosing.once.Invariants.{numbers}
 use Rattle.machine.proofs.choosing.once.Goals as goal
 use Rattle.machine.proofs.choosing.once.Goals.{then-not-holds, else-not-holds}

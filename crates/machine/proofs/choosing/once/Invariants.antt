@@ -1,9 +1,7 @@
 -- The loop's invariant: of the first j each is there once.
-use Rattle.std.proofs.Common.{◌≡◌, ℕ, ◌-◌, ◌%◌, ◌<◌, ◌≤◌, List, length, get_or, sym, refl, ap, ◌∙◌, ⊎_elim, arith, rules}
-use borrow.Author.Tests.{not-true, not-false}
-use Rattle.graph.specs.Words.{row, is_in}
-use Rattle.graph.proofs.Facts.{length_row, row_at}
-use Rattle.machine.proofs.Once.{Once, once_none, once_new, once_again, once_all}
+use Rattle.std.proofs.Common.{ℕ, ◌-◌, ◌%◌, ◌≤◌, List, get_or}
+use Rattle.graph.specs.Words.{row}
+use Rattle.machine.proofs.Once.{Once}
 use Rattle.machine.proofs.choosing.once.Given as goal
 
 -- the numbers that the given choice lists

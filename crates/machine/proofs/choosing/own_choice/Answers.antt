@@ -1,5 +1,5 @@
 -- The sets are those of the available vertices, and the ticks left those of the live jobs: what `choose` asks for.
-use Rattle.std.proofs.Common.{ℕ, ◌+◌, ◌*◌, ◌%◌, Bool, List, get_or, sym, refl, ap, ◌∙◌, ap₂, arith, rules}
+use Rattle.std.proofs.Common.{ℕ, ◌+◌, ◌*◌, ◌%◌, Bool, List, get_or, sym, refl, ap, ◌∙◌, ap₂, arith}
 use Rattle.graph.specs.Words.{pick, set_of}
 use Rattle.graph.proofs.Facts.{row_at}
 use Rattle.table.specs.Memory.{task}

@@ -1,5 +1,5 @@
 -- Fewer ticks left, or more, or as many: then the order of the slots decides.
-use Rattle.std.proofs.Common.{ℕ, ltb, sym, ◌∙◌, ap₂, arith, rules}
+use Rattle.std.proofs.Common.{ℕ, ltb, sym, ◌∙◌, ap₂, arith}
 use Rattle.machine.proofs.Leading.{by_fewer, by_more, by_order}
 use Rattle.machine.proofs.choosing.ranks_before.Goals as goal
 

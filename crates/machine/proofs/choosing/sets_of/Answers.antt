@@ -1,9 +1,6 @@
-use Rattle.std.proofs.Common.{ℕ, ◌%◌, List, get_or, refl, arith, rules}
-use Rattle.graph.specs.Words.{set_of}
-use Rattle.table.specs.declared.Task.{Task}
+use Rattle.std.proofs.Common.{refl, arith, rules}
 use Rattle.table.specs.Memory.{no_task, task}
-use Rattle.slots.specs.Slots.{is_ready}
-use Rattle.machine.proofs.Sweeping.{falls, Swept, swept_none, swept_at, swept_zeros}
+use Rattle.machine.proofs.Sweeping.{falls, swept_none, swept_at, swept_zeros}
 use Rattle.machine.proofs.choosing.sets_of.Invariants.{ready_in}
 use Rattle.machine.proofs.choosing.sets_of.Goals as goal
 

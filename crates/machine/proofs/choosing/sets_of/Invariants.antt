@@ -1,10 +1,10 @@
 -- A loop over the slots of the set: at those it has passed stand their ready vertices.
-use Rattle.std.proofs.Common.{ℕ, ◌%◌, List, get_or, refl, arith, rules}
+use Rattle.std.proofs.Common.{ℕ, ◌%◌, List, get_or}
 use Rattle.graph.specs.Words.{set_of}
 use Rattle.table.specs.declared.Task.{Task}
-use Rattle.table.specs.Memory.{no_task, task}
+use Rattle.table.specs.Memory.{no_task}
 use Rattle.slots.specs.Slots.{is_ready}
-use Rattle.machine.proofs.Sweeping.{falls, Swept, swept_none, swept_at, swept_zeros}
+use Rattle.machine.proofs.Sweeping.{Swept}
 use Rattle.machine.proofs.choosing.sets_of.Given as goal
 
 -- the ready vertices of slot s

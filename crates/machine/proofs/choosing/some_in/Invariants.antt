@@ -1,8 +1,6 @@
 -- Of the slots passed, those whose set has a member are gathered.
-use Rattle.std.proofs.Common.{ℕ, ◌-◌, Bool, ltb, List, get_or, sym, ap, ◌∙◌, subst, ⊎_elim, arith, rules, le-ltb, lt-ltb}
-use lib.Bits.{bit_and, bit_or}
-use Rattle.machine.proofs.Sweeping.{falls}
-use Rattle.machine.proofs.Gathering.{Gathered, gathered_none, gathered_one, gathered_skip, gathered_all}
+use Rattle.std.proofs.Common.{ℕ, Bool, ltb, List, get_or}
+use Rattle.machine.proofs.Gathering.{Gathered}
 use Rattle.machine.proofs.choosing.some_in.Given as goal
 
 abbrev pub has_some : List ℕ → ℕ → Bool

@@ -1,6 +1,5 @@
 -- All but bit u.
 use Rattle.graph.proofs.Bits.{one_less}
-use Rattle.std.proofs.Common.{rules}
 use Rattle.machine.proofs.choosing.without.Goals as goal
 
 pub returns : goal.returns

@@ -1,6 +1,6 @@
 use Rattle.std.proofs.Common.{arith, rules}
 use Rattle.machine.proofs.Sweeping.{falls}
-use Rattle.machine.proofs.Taking.{Closing, closing_none, closing_with, closing_without, closing_live, closing_ends, closing_work, closing_rest}
+use Rattle.machine.proofs.Taking.{closing_none, closing_with, closing_without, closing_live, closing_ends, closing_work, closing_rest}
 use Rattle.machine.proofs.closing.close.Goals as goal
 use Rattle.machine.proofs.closing.close.Goals.{then-from-lt64, else-from-lt64}
 

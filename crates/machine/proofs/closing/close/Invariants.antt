@@ -1,7 +1,5 @@
 -- The slots are passed from the lowest up: proofs/Taking.antt.
-use Rattle.std.proofs.Common.{⊎_elim, arith, rules}
-use Rattle.machine.proofs.Sweeping.{falls}
-use Rattle.machine.proofs.Taking.{Closing, closing_none, closing_with, closing_without, closing_live, closing_ends, closing_work, closing_rest}
+use Rattle.machine.proofs.Taking.{Closing}
 use Rattle.machine.proofs.closing.close.Given as goal
 
 abbrev pub invariant-loop-rest : goal.invariant-loop-rest

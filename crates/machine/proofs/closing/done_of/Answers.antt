@@ -1,4 +1,4 @@
-use Rattle.std.proofs.Common.{ℕ, ◌-◌, Bool, eqb, List, get_or, sym, ap, ◌∙◌, subst, arith, rules, eq-eqb, ne_eqb}
+use Rattle.std.proofs.Common.{◌-◌, sym, ap, ◌∙◌, subst, arith, rules, eq-eqb, ne_eqb}
 use lib.Bits.{bit_and, bit_or}
 use Rattle.machine.proofs.Sweeping.{falls}
 use Rattle.machine.proofs.Gathering.{Gathered, gathered_none, gathered_one, gathered_skip, gathered_all}

@@ -1,8 +1,6 @@
 -- The loop's invariant: of the live slots that were passed, those without work are gathered. In the end all were passed.
-use Rattle.std.proofs.Common.{ℕ, ◌-◌, Bool, eqb, List, get_or, sym, ap, ◌∙◌, subst, ⊎_elim, arith, rules, eq-eqb, ne_eqb}
-use lib.Bits.{bit_and, bit_or}
-use Rattle.machine.proofs.Sweeping.{falls}
-use Rattle.machine.proofs.Gathering.{Gathered, gathered_none, gathered_one, gathered_skip, gathered_all}
+use Rattle.std.proofs.Common.{ℕ, Bool, eqb, List, get_or}
+use Rattle.machine.proofs.Gathering.{Gathered}
 use Rattle.machine.proofs.closing.done_of.Given as goal
 
 -- slot s has no work left

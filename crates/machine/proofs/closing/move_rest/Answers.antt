@@ -1,6 +1,6 @@
-use Rattle.std.proofs.Common.{◌+◌, ◌-◌, ◌*◌, ◌≤◌, Bool, get_or, sym, ap, ◌∙◌, arith, rules, le-ltb, lt-ltb}
+use Rattle.std.proofs.Common.{◌+◌, ◌*◌, Bool, get_or, sym, ap, ◌∙◌, arith, rules, le-ltb, lt-ltb}
 use Rattle.graph.specs.Words.{pick}
-use Rattle.machine.proofs.Gaps.{MovedTo, moved_none, moved_one, moved_all}
+use Rattle.machine.proofs.Gaps.{moved_none, moved_one, moved_all}
 use Rattle.machine.proofs.closing.move_rest.Goals as goal
 use Rattle.machine.proofs.closing.move_rest.Goals.{then-from-lt64, else-from-lt64}
 

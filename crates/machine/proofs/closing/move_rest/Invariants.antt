@@ -1,7 +1,6 @@
 -- Each of the sixteen numbers is read before it is written, whichever of the two slots comes first.
-use Rattle.std.proofs.Common.{◌+◌, ◌-◌, ◌*◌, ◌≤◌, Bool, get_or, sym, ap, ◌∙◌, ⊎_elim, arith, rules, le-ltb, lt-ltb}
-use Rattle.graph.specs.Words.{pick}
-use Rattle.machine.proofs.Gaps.{MovedTo, moved_none, moved_one, moved_all}
+use Rattle.std.proofs.Common.{◌-◌, ◌≤◌}
+use Rattle.machine.proofs.Gaps.{MovedTo}
 use Rattle.machine.proofs.closing.move_rest.Given as goal
 
 abbrev pub invariant-loop-u : goal.invariant-loop-u

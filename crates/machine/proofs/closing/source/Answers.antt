@@ -1,4 +1,4 @@
-use Rattle.std.proofs.Common.{◌≡◌, ℕ, ◌+◌, ◌-◌, ◌*◌, ◌/◌, ◌%◌, ◌≤◌, ap, arith, rules, eq-eqb, ne_eqb}
+use Rattle.std.proofs.Common.{◌≡◌, ℕ, ◌+◌, ◌*◌, ◌%◌, ap, arith, eq-eqb, ne_eqb}
 use Rattle.graph.specs.Words.{flag, bit, sum}
 use Rattle.slots.proofs.Cases.{sum_next}
 use Rattle.machine.proofs.Gaps.{source_found, source_none}

@@ -1,8 +1,6 @@
 -- The loop's invariant: those that go on below place p and those still wanted are together as many as stand before the slot.
-use Rattle.std.proofs.Common.{◌≡◌, ℕ, ◌+◌, ◌-◌, ◌*◌, ◌/◌, ◌%◌, ◌≤◌, ap, ⊎_elim, arith, rules, eq-eqb, ne_eqb}
+use Rattle.std.proofs.Common.{◌≡◌, ℕ, ◌+◌, ◌-◌, ◌*◌, ◌/◌, ◌%◌, ◌≤◌}
 use Rattle.graph.specs.Words.{flag, bit, sum}
-use Rattle.slots.proofs.Cases.{sum_next}
-use Rattle.machine.proofs.Gaps.{source_found, source_none}
 use Rattle.machine.proofs.closing.source.Given as goal
 
 abbrev pub goes_on : ℕ → ℕ → ℕ → ℕ

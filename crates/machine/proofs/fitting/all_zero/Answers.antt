@@ -1,9 +1,6 @@
-use Rattle.std.proofs.Common.{◌≡◌, ℕ, ◌-◌, ◌%◌, ◌≤◌, Bool, true, List, get_or, sym, refl, ◌∙◌, arith, rules}
+use Rattle.std.proofs.Common.{sym, refl, ◌∙◌, arith}
 use Rattle.graph.specs.Words.{bit, all}
 use Rattle.slots.proofs.Behind.{all_more, all_off, all_done_lem}
-use Rattle.slots.specs.Slots.{zero_place}
-use borrow.Author.Tests.{not-true, not-false}
-use Rattle.machine.proofs.fitting.all_zero.Invariants.{zero_in}
 use Rattle.machine.proofs.fitting.all_zero.Goals as goal
 
 pub loop-s-init : goal.loop-s-init

@@ -1,9 +1,7 @@
 -- The loop's invariant: the slots that were passed are slots of zeros.
-use Rattle.std.proofs.Common.{◌≡◌, ℕ, ◌-◌, ◌%◌, ◌≤◌, Bool, true, List, get_or, sym, refl, ◌∙◌, arith, rules}
+use Rattle.std.proofs.Common.{◌≡◌, ℕ, ◌-◌, ◌≤◌, Bool, true, List, get_or}
 use Rattle.graph.specs.Words.{bit, all}
-use Rattle.slots.proofs.Behind.{all_more, all_off, all_done_lem}
 use Rattle.slots.specs.Slots.{zero_place}
-use borrow.Author.Tests.{not-true, not-false}
 use Rattle.machine.proofs.fitting.all_zero.Given as goal
 
 abbrev pub zero_in : ℕ → List ℕ → List ℕ → ℕ → Bool

@@ -1,8 +1,7 @@
 -- Running: the waits, then each slot; stopped: at which task, then the waits and each slot.
 use Rattle.machine.proofs.Judging.{running_waits, running_slots, stopped_past, stopped_waits, stopped_slots}
-use Rattle.std.proofs.Common.{sym, ◌∙◌, arith, rules}
+use Rattle.std.proofs.Common.{sym, ◌∙◌, arith}
 use Rattle.table.specs.Memory.{task}
-use borrow.Author.Tests.{not-true, not-false}
 use Rattle.machine.proofs.fitting.fits_rows.Goals as goal
 
 pub returns-then-not-waits_fit : goal.returns-then-not-waits_fit

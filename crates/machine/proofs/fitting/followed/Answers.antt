@@ -1,5 +1,5 @@
 use Rattle.machine.proofs.Judging.{followed_past, followed_in}
-use Rattle.std.proofs.Common.{◌∙◌, arith, rules}
+use Rattle.std.proofs.Common.{arith}
 use Rattle.graph.specs.Words.{bit}
 use Rattle.machine.proofs.fitting.followed.Goals as goal
 

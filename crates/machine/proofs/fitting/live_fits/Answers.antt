@@ -1,6 +1,5 @@
 use Rattle.machine.proofs.Judging.{not_newest, not_spaced, its_job}
-use Rattle.std.proofs.Common.{sym, ◌∙◌, arith, rules}
-use borrow.Author.Tests.{not-true, not-false}
+use Rattle.std.proofs.Common.{sym, ◌∙◌}
 use Rattle.machine.proofs.fitting.live_fits.Goals as goal
 
 pub returns-then-not-newest : goal.returns-then-not-newest

@@ -1,5 +1,5 @@
 use Rattle.machine.proofs.Judging.{newest_then, newest_else}
-use Rattle.std.proofs.Common.{sym, ◌∙◌, arith, rules}
+use Rattle.std.proofs.Common.{sym, ◌∙◌}
 use Rattle.machine.proofs.fitting.newest.Goals as goal
 
 pub returns-then-followed : goal.returns-then-followed

@@ -1,7 +1,6 @@
-use Rattle.std.proofs.Common.{◌≡◌, ℕ, ◌-◌, ◌%◌, ◌≤◌, Bool, true, eqb, List, get_or, sym, refl, ◌∙◌, arith, rules, eq-eqb, ne_eqb}
-use Rattle.graph.specs.Words.{bit, all}
+use Rattle.std.proofs.Common.{refl, arith, eq-eqb, ne_eqb}
+use Rattle.graph.specs.Words.{all}
 use Rattle.slots.proofs.Behind.{all_more, all_off, all_done_lem}
-use Rattle.machine.proofs.fitting.no_waits.Invariants.{no_wait}
 use Rattle.machine.proofs.fitting.no_waits.Goals as goal
 
 pub loop-i-init : goal.loop-i-init

@@ -1,7 +1,6 @@
 -- The loop's invariant: the tasks that were passed have no wait.
-use Rattle.std.proofs.Common.{◌≡◌, ℕ, ◌-◌, ◌%◌, ◌≤◌, Bool, true, eqb, List, get_or, sym, refl, ◌∙◌, arith, rules, eq-eqb, ne_eqb}
-use Rattle.graph.specs.Words.{bit, all}
-use Rattle.slots.proofs.Behind.{all_more, all_off, all_done_lem}
+use Rattle.std.proofs.Common.{◌≡◌, ℕ, ◌-◌, ◌≤◌, Bool, true, eqb, List, get_or}
+use Rattle.graph.specs.Words.{all}
 use Rattle.machine.proofs.fitting.no_waits.Given as goal
 
 abbrev pub no_wait : List ℕ → ℕ → Bool

@@ -1,5 +1,5 @@
 use Rattle.machine.proofs.Judging.{slot_zero, slot_past, slot_live}
-use Rattle.std.proofs.Common.{◌∙◌, arith, rules, eq-eqb, ne_eqb}
+use Rattle.std.proofs.Common.{◌∙◌, arith, eq-eqb, ne_eqb}
 use Rattle.graph.specs.Words.{bit}
 use Rattle.machine.proofs.fitting.slot_fits.Goals as goal
 

@@ -1,5 +1,5 @@
 use Rattle.machine.proofs.Judging.{spaced_oldest, spaced_gap, spaced_by_lem}
-use Rattle.std.proofs.Common.{ℕ, ◌+◌, Bool, leb, ◌∙◌, ap₂, arith, rules, eq-eqb, ne_eqb}
+use Rattle.std.proofs.Common.{ℕ, ◌+◌, leb, ◌∙◌, ap₂, arith, eq-eqb, ne_eqb}
 use Rattle.graph.specs.Words.{bit}
 use Rattle.machine.proofs.fitting.spaced.Goals as goal
 

@@ -1,5 +1,5 @@
 use Rattle.machine.proofs.Judging.{wait_none, wait_some}
-use Rattle.std.proofs.Common.{arith, rules}
+use Rattle.std.proofs.Common.{arith}
 use Rattle.machine.proofs.fitting.wait_fits.Goals as goal
 
 pub returns-then-n-i : goal.returns-then-n-i

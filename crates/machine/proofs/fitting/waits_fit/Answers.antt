@@ -1,11 +1,7 @@
-use Rattle.std.proofs.Common.{◌≡◌, ℕ, ◌-◌, ◌%◌, ◌≤◌, Bool, true, List, get_or, sym, refl, ◌∙◌, arith, rules}
-use Rattle.graph.specs.Words.{bit, all}
+use Rattle.std.proofs.Common.{sym, refl, ◌∙◌, arith}
+use Rattle.graph.specs.Words.{all}
 use Rattle.slots.proofs.Behind.{all_more, all_off, all_done_lem}
-use Rattle.table.specs.declared.Task.{Task}
 use Rattle.table.specs.Memory.{no_task}
-use Rattle.machine.specs.Rows.{wait_fits}
-use borrow.Author.Tests.{not-true, not-false}
-use Rattle.machine.proofs.fitting.waits_fit.Invariants.{fits_in}
 use Rattle.machine.proofs.fitting.waits_fit.Goals as goal
 
 pub loop-i-init : goal.loop-i-init

@@ -1,11 +1,9 @@
 -- The loop's invariant: the waits that were passed fit.
-use Rattle.std.proofs.Common.{◌≡◌, ℕ, ◌-◌, ◌%◌, ◌≤◌, Bool, true, List, get_or, sym, refl, ◌∙◌, arith, rules}
-use Rattle.graph.specs.Words.{bit, all}
-use Rattle.slots.proofs.Behind.{all_more, all_off, all_done_lem}
+use Rattle.std.proofs.Common.{◌≡◌, ℕ, ◌-◌, ◌≤◌, Bool, true, List, get_or}
+use Rattle.graph.specs.Words.{all}
 use Rattle.table.specs.declared.Task.{Task}
 use Rattle.table.specs.Memory.{no_task}
 use Rattle.machine.specs.Rows.{wait_fits}
-use borrow.Author.Tests.{not-true, not-false}
 use Rattle.machine.proofs.fitting.waits_fit.Given as goal
 
 abbrev pub fits_in : ℕ → List Task → List ℕ → ℕ → Bool

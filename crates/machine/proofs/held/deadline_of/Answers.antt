@@ -1,4 +1,4 @@
-use Rattle.std.proofs.Common.{sym, ap, rules}
+use Rattle.std.proofs.Common.{sym, ap}
 use Rattle.machine.specs.States.{deadline_of}
 use Rattle.machine.proofs.held.deadline_of.Goals as goal
 

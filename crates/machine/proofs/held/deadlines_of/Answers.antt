@@ -1,9 +1,7 @@
-use Rattle.std.proofs.Common.{ℕ, List, replicate, refl, ap, ◌∙◌, arith, rules}
-use mathlib.Core.Path.{subst⁻¹}
-use Rattle.machine.specs.declared.TaskState.{TaskState}
-use Rattle.machine.specs.States.{no_job, deadline_of}
-use Rattle.machine.specs.Rows.{no_task, job_in}
-use Rattle.machine.proofs.Sweeping.{falls, Swept, swept_none, swept_at, swept_all, swept_zeros}
+use Rattle.std.proofs.Common.{refl, arith, rules}
+use Rattle.machine.specs.States.{no_job}
+use Rattle.machine.specs.Rows.{no_task}
+use Rattle.machine.proofs.Sweeping.{falls, swept_none, swept_at, swept_zeros}
 use Rattle.machine.proofs.held.deadlines_of.Invariants.{deadline_in}
 use Rattle.machine.proofs.held.deadlines_of.Goals as goal
 

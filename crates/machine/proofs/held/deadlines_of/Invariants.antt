@@ -1,9 +1,8 @@
-use Rattle.std.proofs.Common.{ℕ, List, replicate, refl, ap, ◌∙◌, arith, rules}
-use mathlib.Core.Path.{subst⁻¹}
+use Rattle.std.proofs.Common.{ℕ, List}
 use Rattle.machine.specs.declared.TaskState.{TaskState}
-use Rattle.machine.specs.States.{no_job, deadline_of}
-use Rattle.machine.specs.Rows.{no_task, job_in}
-use Rattle.machine.proofs.Sweeping.{falls, Swept, swept_none, swept_at, swept_all, swept_zeros}
+use Rattle.machine.specs.States.{deadline_of}
+use Rattle.machine.specs.Rows.{job_in}
+use Rattle.machine.proofs.Sweeping.{Swept}
 use Rattle.machine.proofs.held.deadlines_of.Given as goal
 
 -- the deadline at slot s

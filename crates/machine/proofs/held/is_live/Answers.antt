@@ -1,4 +1,4 @@
-use Rattle.std.proofs.Common.{sym, ap, rules}
+use Rattle.std.proofs.Common.{sym, ap}
 use Rattle.machine.specs.States.{is_live}
 use Rattle.machine.proofs.held.is_live.Goals as goal
 

@@ -1,6 +1,5 @@
-use Rattle.std.proofs.Common.{ℕ, List, get_or, refl, arith, rules}
-use Rattle.machine.specs.States.{ticks_left}
-use Rattle.machine.proofs.Sweeping.{falls, Swept, swept_none, swept_at, swept_zeros}
+use Rattle.std.proofs.Common.{refl, arith, rules}
+use Rattle.machine.proofs.Sweeping.{falls, swept_none, swept_at, swept_zeros}
 use Rattle.machine.proofs.held.left_of.Invariants.{left_in}
 use Rattle.machine.proofs.held.left_of.Goals as goal
 

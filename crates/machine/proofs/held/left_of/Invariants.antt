@@ -1,6 +1,6 @@
-use Rattle.std.proofs.Common.{ℕ, List, get_or, refl, arith, rules}
+use Rattle.std.proofs.Common.{ℕ, List, get_or}
 use Rattle.machine.specs.States.{ticks_left}
-use Rattle.machine.proofs.Sweeping.{falls, Swept, swept_none, swept_at, swept_zeros}
+use Rattle.machine.proofs.Sweeping.{Swept}
 use Rattle.machine.proofs.held.left_of.Given as goal
 
 -- the ticks left at slot s

@@ -1,10 +1,8 @@
-use Rattle.std.proofs.Common.{◌≡◌, ℕ, ◌+◌, ◌-◌, ◌≤◌, Bool, List, sym, refl, ap, ◌∙◌, ap₂, ⊎_elim, arith, rules}
-use Rattle.graph.specs.Words.{sum, set_of}
-use Rattle.graph.proofs.Sets.{set_with, set_without}
+use Rattle.std.proofs.Common.{◌≡◌, ℕ, ◌-◌, ◌≤◌, Bool, List}
+use Rattle.graph.specs.Words.{set_of}
 use Rattle.machine.specs.declared.TaskState.{TaskState}
-use Rattle.machine.specs.States.{no_job, is_live}
-use Rattle.machine.specs.Rows.{no_task, job_in}
-use Rattle.machine.proofs.Sweeping.{slot_room}
+use Rattle.machine.specs.States.{is_live}
+use Rattle.machine.specs.Rows.{job_in}
 use Rattle.machine.proofs.held.live_set.Given as goal
 
 -- slot s has a live job

@@ -1,4 +1,4 @@
-use Rattle.std.proofs.Common.{refl, arith, rules}
+use Rattle.std.proofs.Common.{refl}
 use Rattle.machine.proofs.held.place_of.Goals as goal
 
 pub returns-then-live : goal.returns-then-live

@@ -1,8 +1,8 @@
-use Rattle.std.proofs.Common.{◌-◌, ◌≤◌, refl, arith, rules}
+use Rattle.std.proofs.Common.{refl, arith, rules}
 use Rattle.graph.specs.Words.{bit}
 use Rattle.machine.specs.States.{no_job}
 use Rattle.machine.specs.Rows.{place_by}
-use Rattle.machine.proofs.Filling.{Filled, filled_none, filled_set, filled_all}
+use Rattle.machine.proofs.Filling.{filled_none, filled_set, filled_all}
 use Rattle.machine.proofs.held.places.Goals as goal
 
 pub loop-p-init : goal.loop-p-init

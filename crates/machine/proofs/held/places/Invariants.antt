@@ -1,8 +1,7 @@
-use Rattle.std.proofs.Common.{◌-◌, ◌≤◌, refl, arith, rules}
-use Rattle.graph.specs.Words.{bit}
+use Rattle.std.proofs.Common.{◌-◌, ◌≤◌}
 use Rattle.machine.specs.States.{no_job}
 use Rattle.machine.specs.Rows.{place_by}
-use Rattle.machine.proofs.Filling.{Filled, filled_none, filled_set, filled_all}
+use Rattle.machine.proofs.Filling.{Filled}
 use Rattle.machine.proofs.held.places.Given as goal
 
 abbrev pub invariant-loop-p : goal.invariant-loop-p

@@ -1,9 +1,6 @@
-use Rattle.std.proofs.Common.{ℕ, ◌-◌, ◌≤◌, List, get_or, refl, ap₂, arith, rules}
-use Rattle.graph.specs.Words.{row}
-use Rattle.machine.specs.declared.Place.{Place}
-use Rattle.machine.specs.declared.TaskState.{TaskState}
-use Rattle.machine.specs.Rows.{no_task, place_by}
-use Rattle.machine.proofs.Filling.{Filled, filled_none, filled_set, filled_all}
+use Rattle.std.proofs.Common.{refl, ap₂, arith, rules}
+use Rattle.machine.specs.Rows.{no_task}
+use Rattle.machine.proofs.Filling.{filled_none, filled_set, filled_all}
 use Rattle.machine.proofs.held.together.Invariants.{with_jobs, entry_in}
 use Rattle.machine.proofs.held.together.Goals as goal
 

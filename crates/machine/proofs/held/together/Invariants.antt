@@ -1,9 +1,9 @@
-use Rattle.std.proofs.Common.{ℕ, ◌-◌, ◌≤◌, List, get_or, refl, ap₂, arith, rules}
+use Rattle.std.proofs.Common.{ℕ, ◌-◌, ◌≤◌, List, get_or}
 use Rattle.graph.specs.Words.{row}
 use Rattle.machine.specs.declared.Place.{Place}
 use Rattle.machine.specs.declared.TaskState.{TaskState}
 use Rattle.machine.specs.Rows.{no_task, place_by}
-use Rattle.machine.proofs.Filling.{Filled, filled_none, filled_set, filled_all}
+use Rattle.machine.proofs.Filling.{Filled}
 use Rattle.machine.proofs.held.together.Given as goal
 
 abbrev pub with_jobs : ℕ → List Place → TaskState

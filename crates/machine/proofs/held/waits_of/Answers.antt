@@ -1,7 +1,6 @@
-use Rattle.std.proofs.Common.{ℕ, ◌-◌, ◌≤◌, List, get_or, refl, arith, rules}
-use Rattle.machine.specs.declared.TaskState.{TaskState}
+use Rattle.std.proofs.Common.{refl, arith, rules}
 use Rattle.machine.specs.Rows.{no_task}
-use Rattle.machine.proofs.Filling.{Filled, filled_none, filled_set, filled_all}
+use Rattle.machine.proofs.Filling.{filled_none, filled_set, filled_all}
 use Rattle.machine.proofs.held.waits_of.Invariants.{wait_in}
 use Rattle.machine.proofs.held.waits_of.Goals as goal
 

@@ -1,7 +1,7 @@
-use Rattle.std.proofs.Common.{ℕ, ◌-◌, ◌≤◌, List, get_or, refl, arith, rules}
+use Rattle.std.proofs.Common.{ℕ, ◌-◌, ◌≤◌, List, get_or}
 use Rattle.machine.specs.declared.TaskState.{TaskState}
 use Rattle.machine.specs.Rows.{no_task}
-use Rattle.machine.proofs.Filling.{Filled, filled_none, filled_set, filled_all}
+use Rattle.machine.proofs.Filling.{Filled}
 use Rattle.machine.proofs.held.waits_of.Given as goal
 
 abbrev pub wait_in : List TaskState → ℕ → ℕ

@@ -1,8 +1,7 @@
-use Rattle.std.proofs.Common.{ℕ, ◌+◌, ◌%◌, List, get_or, arith, rules}
-use Rattle.table.specs.declared.Task.{Task}
+use Rattle.std.proofs.Common.{arith, rules}
 use Rattle.table.specs.Memory.{no_task, task, D}
 use Rattle.machine.specs.States.{wrap}
-use Rattle.machine.proofs.Sweeping.{falls, Swept, swept_none, swept_at, swept_all}
+use Rattle.machine.proofs.Sweeping.{falls, swept_none, swept_at, swept_all}
 use Rattle.machine.proofs.lent.begin.Invariants.{deadline_in}
 use Rattle.machine.proofs.lent.begin.Goals as goal
 

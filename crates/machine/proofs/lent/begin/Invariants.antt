@@ -1,8 +1,8 @@
-use Rattle.std.proofs.Common.{ℕ, ◌+◌, ◌%◌, List, get_or, arith, rules}
+use Rattle.std.proofs.Common.{ℕ, ◌+◌, ◌%◌, List, get_or}
 use Rattle.table.specs.declared.Task.{Task}
-use Rattle.table.specs.Memory.{no_task, task, D}
+use Rattle.table.specs.Memory.{no_task}
 use Rattle.machine.specs.States.{wrap}
-use Rattle.machine.proofs.Sweeping.{falls, Swept, swept_none, swept_at, swept_all}
+use Rattle.machine.proofs.Sweeping.{Swept}
 use Rattle.machine.proofs.lent.begin.Given as goal
 
 abbrev pub deadline_in : ℕ → List Task → ℕ → ℕ

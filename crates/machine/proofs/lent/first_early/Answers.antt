@@ -1,9 +1,7 @@
 use Rattle.graph.proofs.Bits.{bit_past}
 use native.Mathlib.Decide.{dec_lt}
-use Rattle.std.proofs.Common.{◌-◌, ◌≤◌, Bool, ◌&&◌, ltb, get_or, sym, ap, ◌∙◌, arith, rules, below_none, below_more}
-use Rattle.graph.specs.Words.{bit}
+use Rattle.std.proofs.Common.{Bool, ◌&&◌, ltb, get_or, sym, ap, ◌∙◌, arith, below_none, below_more}
 use Rattle.graph.proofs.Facts.{lowest_is, lowest_none}
-use Rattle.machine.proofs.Lowest.{None}
 use Rattle.machine.proofs.lent.first_early.Goals as goal
 
 pub loop-i-init : goal.loop-i-init

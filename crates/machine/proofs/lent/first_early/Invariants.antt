@@ -1,9 +1,6 @@
 -- The loop's invariant: none that was passed is early. So the first that is early is the lowest, and past the sixteenth no number is named.
-use Rattle.graph.proofs.Bits.{bit_past}
-use native.Mathlib.Decide.{dec_lt}
-use Rattle.std.proofs.Common.{◌-◌, ◌≤◌, Bool, ◌&&◌, ltb, get_or, sym, ap, ◌∙◌, arith, rules, below_none, below_more}
+use Rattle.std.proofs.Common.{◌-◌, ◌≤◌, ◌&&◌, ltb, get_or}
 use Rattle.graph.specs.Words.{bit}
-use Rattle.graph.proofs.Facts.{lowest_is, lowest_none}
 use Rattle.machine.proofs.Lowest.{None}
 use Rattle.machine.proofs.lent.first_early.Given as goal
 

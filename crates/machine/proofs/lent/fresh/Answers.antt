@@ -1,4 +1,4 @@
-use Rattle.std.proofs.Common.{◌≡◌, ℕ, ◌+◌, ◌-◌, ◌≤◌, sym, refl, ap, ◌∙◌, ap₂, arith, rules}
+use Rattle.std.proofs.Common.{◌≡◌, ℕ, ◌+◌, sym, refl, ap, ◌∙◌, ap₂, arith, rules}
 use Rattle.graph.specs.Words.{sum, set_of}
 use Rattle.graph.proofs.Sets.{set_with, set_without}
 use Rattle.machine.specs.Rows.{is_new_by}

@@ -1,9 +1,6 @@
-use Rattle.std.proofs.Common.{◌≡◌, ℕ, ◌+◌, ◌-◌, ◌≤◌, sym, refl, ap, ◌∙◌, ap₂, ⊎_elim, arith, rules}
-use Rattle.graph.specs.Words.{sum, set_of}
-use Rattle.graph.proofs.Sets.{set_with, set_without}
+use Rattle.std.proofs.Common.{◌≡◌, ◌-◌, ◌≤◌}
+use Rattle.graph.specs.Words.{set_of}
 use Rattle.machine.specs.Rows.{is_new_by}
-use Rattle.machine.proofs.Sweeping.{slot_room}
-use Rattle.machine.proofs.Putting.{none_new}
 use Rattle.machine.proofs.lent.fresh.Given as goal
 
 abbrev pub invariant-loop-s : goal.invariant-loop-s

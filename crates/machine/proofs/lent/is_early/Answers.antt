@@ -1,5 +1,5 @@
 -- A task is early if it is named and has a wait: the two tests, one after the other.
-use Rattle.std.proofs.Common.{refl, rules, eq-eqb, ne_eqb}
+use Rattle.std.proofs.Common.{refl, eq-eqb, ne_eqb}
 use Rattle.graph.specs.Words.{bit}
 use Rattle.machine.proofs.lent.is_early.Goals as goal
 

@@ -1,4 +1,4 @@
-use Rattle.std.proofs.Common.{◌/◌, eqb, ap, ◌∙◌, arith, rules, eq-eqb, ne_eqb}
+use Rattle.std.proofs.Common.{◌/◌, eqb, ap, ◌∙◌, eq-eqb, ne_eqb}
 use Rattle.graph.specs.Words.{bit}
 use Rattle.machine.proofs.Putting.{new_off, new_on}
 use Rattle.machine.proofs.lent.is_new.Goals as goal

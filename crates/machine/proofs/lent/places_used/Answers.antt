@@ -1,4 +1,4 @@
-use Rattle.std.proofs.Common.{◌≡◌, ℕ, ◌+◌, ◌-◌, ◌*◌, ◌≤◌, refl, ap, ◌∙◌, arith, rules, eq-eqb, ne_eqb}
+use Rattle.std.proofs.Common.{◌≡◌, ℕ, ◌+◌, ◌*◌, refl, ap, ◌∙◌, arith, eq-eqb, ne_eqb}
 use Rattle.graph.specs.Words.{flag, bit, sum}
 use Rattle.slots.proofs.Cases.{sum_next}
 use Rattle.machine.specs.Rows.{used_by}

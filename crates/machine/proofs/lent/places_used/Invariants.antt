@@ -1,8 +1,6 @@
 -- The loop's invariant: how many of the places that were passed are in use.
-use Rattle.std.proofs.Common.{◌≡◌, ℕ, ◌+◌, ◌-◌, ◌*◌, ◌≤◌, refl, ap, ◌∙◌, ⊎_elim, arith, rules, eq-eqb, ne_eqb}
+use Rattle.std.proofs.Common.{◌≡◌, ℕ, ◌+◌, ◌-◌, ◌*◌, ◌≤◌}
 use Rattle.graph.specs.Words.{flag, bit, sum}
-use Rattle.slots.proofs.Cases.{sum_next}
-use Rattle.machine.specs.Rows.{used_by}
 use Rattle.machine.proofs.lent.places_used.Given as goal
 
 abbrev pub used_in : ℕ → ℕ → ℕ → ℕ

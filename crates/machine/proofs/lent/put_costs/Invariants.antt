@@ -1,7 +1,4 @@
-use Rattle.std.proofs.Common.{ℕ, ◌-◌, List, sym, subst, arith, rules}
-use lib.Bits.{bit_and}
-use Rattle.machine.proofs.Sweeping.{falls}
-use Rattle.machine.proofs.Putting.{PutAt, at_none, at_one, at_all}
+use Rattle.machine.proofs.Putting.{PutAt}
 use Rattle.machine.proofs.lent.put_costs.Given as goal
 
 abbrev pub invariant-loop-rest : goal.invariant-loop-rest

@@ -1,5 +1,5 @@
-use Rattle.std.proofs.Common.{◌-◌, ◌≤◌, arith, rules}
-use Rattle.machine.proofs.Putting.{PutTo, put_none, put_one, put_all}
+use Rattle.std.proofs.Common.{arith, rules}
+use Rattle.machine.proofs.Putting.{put_none, put_one, put_all}
 use Rattle.machine.proofs.lent.put_slot.Goals as goal
 
 pub loop-u-init : goal.loop-u-init

@@ -1,5 +1,5 @@
-use Rattle.std.proofs.Common.{◌-◌, ◌≤◌, arith, rules}
-use Rattle.machine.proofs.Putting.{PutTo, put_none, put_one, put_all}
+use Rattle.std.proofs.Common.{◌-◌, ◌≤◌}
+use Rattle.machine.proofs.Putting.{PutTo}
 use Rattle.machine.proofs.lent.put_slot.Given as goal
 
 abbrev pub invariant-loop-u : goal.invariant-loop-u

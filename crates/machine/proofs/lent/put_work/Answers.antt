@@ -1,6 +1,6 @@
-use Rattle.std.proofs.Common.{ℕ, arith, rules}
+use Rattle.std.proofs.Common.{arith, rules}
 use Rattle.slots.specs.Slots.{work_left}
-use Rattle.machine.proofs.Sweeping.{falls, Swept, swept_none, swept_at, swept_all}
+use Rattle.machine.proofs.Sweeping.{falls, swept_none, swept_at, swept_all}
 use Rattle.machine.proofs.lent.put_work.Goals as goal
 
 pub loop-rest-init : goal.loop-rest-init

@@ -1,6 +1,5 @@
-use Rattle.std.proofs.Common.{ℕ, arith, rules}
 use Rattle.slots.specs.Slots.{work_left}
-use Rattle.machine.proofs.Sweeping.{falls, Swept, swept_none, swept_at, swept_all}
+use Rattle.machine.proofs.Sweeping.{Swept}
 use Rattle.machine.proofs.lent.put_work.Given as goal
 
 abbrev pub invariant-loop-rest : goal.invariant-loop-rest

@@ -1,5 +1,5 @@
 -- Each row is changed by its own part; the work is the sum of what remains once the costs are put.
-use Rattle.std.proofs.Common.{ℕ, List, get_or, ap, ◌∙◌, rules}
+use Rattle.std.proofs.Common.{ℕ, List, get_or, ap, ◌∙◌}
 use Rattle.graph.specs.Words.{pick, bit, row}
 use Rattle.slots.specs.Slots.{work_left}
 use Rattle.machine.proofs.lent.release.Goals as goal

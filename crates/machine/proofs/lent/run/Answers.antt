@@ -1,4 +1,4 @@
-use Rattle.std.proofs.Common.{◌≡◌, ℕ, ◌-◌, ◌%◌, ◌<◌, ◌≤◌, min, List, length, get_or, sym, ap, ◌∙◌, subst, arith, rules}
+use Rattle.std.proofs.Common.{◌≡◌, ℕ, ◌<◌, min, List, length, get_or, sym, ap, ◌∙◌, subst, arith, rules}
 use Rattle.graph.specs.Words.{row, Distinct}
 use Rattle.graph.proofs.Facts.{length_row, row_at}
 use Rattle.machine.specs.Rows.{place_in}

@@ -1,11 +1,9 @@
 -- The loop's invariant: those that were passed have run, and one is off for each of them of which something remained. It goes by the places of the
 -- vertices in the rows; `name_at` gives their numbers back.
-use Rattle.std.proofs.Common.{◌≡◌, ℕ, ◌-◌, ◌%◌, ◌<◌, ◌≤◌, min, List, length, get_or, sym, ap, ◌∙◌, subst, ⊎_elim, arith, rules}
-use Rattle.graph.specs.Words.{row, Distinct}
-use Rattle.graph.proofs.Facts.{length_row, row_at}
+use Rattle.std.proofs.Common.{ℕ, ◌-◌, ◌%◌, ◌≤◌, List, get_or}
+use Rattle.graph.specs.Words.{row}
 use Rattle.machine.specs.Rows.{place_in}
-use Rattle.machine.proofs.Taken.{Runs, runs_none, runs_one, runs_skip, runs_all}
-use Rattle.machine.proofs.Numbering.{places_distinct, rest_by_name, work_by_name}
+use Rattle.machine.proofs.Taken.{Runs}
 use Rattle.machine.proofs.lent.run.Given as goal
 
 -- the numbers of the vertices chosen, and their places

@@ -1,8 +1,7 @@
-use Rattle.std.proofs.Common.{ℕ, ◌-◌, ◌≤◌, List, get_or, refl, arith, rules, eq-eqb, ne_eqb}
-use Rattle.graph.specs.Words.{pick, bit}
-use Rattle.table.specs.declared.Task.{Task}
+use Rattle.std.proofs.Common.{refl, arith, rules, eq-eqb, ne_eqb}
+use Rattle.graph.specs.Words.{bit}
 use Rattle.table.specs.Memory.{no_task, task, T}
-use Rattle.machine.proofs.Filling.{Filled, filled_none, filled_set, filled_kept, filled_all}
+use Rattle.machine.proofs.Filling.{filled_none, filled_set, filled_kept, filled_all}
 use Rattle.machine.proofs.lent.wait_anew.Invariants.{wait_in}
 use Rattle.machine.proofs.lent.wait_anew.Goals as goal
 use Rattle.machine.proofs.lent.wait_anew.Goals.{then-named-i-eq1, else-named-i-eq1}

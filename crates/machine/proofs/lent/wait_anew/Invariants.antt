@@ -1,8 +1,8 @@
-use Rattle.std.proofs.Common.{ℕ, ◌-◌, ◌≤◌, List, get_or, refl, ⊎_elim, arith, rules, eq-eqb, ne_eqb}
+use Rattle.std.proofs.Common.{ℕ, ◌-◌, ◌≤◌, List, get_or}
 use Rattle.graph.specs.Words.{pick, bit}
 use Rattle.table.specs.declared.Task.{Task}
-use Rattle.table.specs.Memory.{no_task, task, T}
-use Rattle.machine.proofs.Filling.{Filled, filled_none, filled_set, filled_kept, filled_all}
+use Rattle.table.specs.Memory.{no_task}
+use Rattle.machine.proofs.Filling.{Filled}
 use Rattle.machine.proofs.lent.wait_anew.Given as goal
 
 abbrev pub wait_in : ℕ → List Task → List ℕ → ℕ → ℕ

@@ -1,4 +1,3 @@
-use Rattle.std.proofs.Common.{rules}
 use Rattle.machine.proofs.Starting.{open-laws}
 use Rattle.machine.proofs.opening.open.Goals as goal
 

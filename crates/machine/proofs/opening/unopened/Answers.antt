@@ -1,4 +1,3 @@
-use Rattle.std.proofs.Common.{rules}
 use Rattle.machine.specs.States.{unopened}
 use Rattle.machine.proofs.opening.unopened.Goals as goal
 

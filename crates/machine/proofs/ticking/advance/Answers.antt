@@ -1,12 +1,10 @@
 -- Step 1 where the rows lie, step 4 of what the choice lists, each number once, and steps 5 and 6 of the state that the rows then make.
 use Rattle.std.proofs.Common.{◌≡◌, length, refl, ap, ◌∙◌, rules}
-use Rattle.graph.specs.Words.{set_of}
 use Rattle.graph.proofs.Facts.{clash, length_row}
 use Rattle.machine.specs.Steps.{released, listed}
-use Rattle.machine.specs.Rows.{is_new_by}
 use Rattle.machine.specs.Ticking.{advance_to, advance}
 use Rattle.machine.proofs.Filling.{length_mapped}
-use Rattle.machine.proofs.Apart.{Apart, apart}
+use Rattle.machine.proofs.Apart.{apart}
 use Rattle.machine.proofs.Begun.{Begun, mid_rest, rows_worked, same_work}
 use Rattle.machine.proofs.ticking.advance.Goals as goal
 

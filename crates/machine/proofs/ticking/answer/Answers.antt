@@ -1,5 +1,5 @@
 -- Its parts are those of the definition, by what `reply` and `run_list` give.
-use Rattle.std.proofs.Common.{List, ap₂, rules}
+use Rattle.std.proofs.Common.{List, ap₂}
 use Rattle.machine.specs.declared.Triple.{Triple}
 use Rattle.machine.specs.declared.Reply.{Reply}
 use Rattle.machine.proofs.ticking.answer.Goals as goal

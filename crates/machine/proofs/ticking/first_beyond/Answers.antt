@@ -1,8 +1,7 @@
-use Rattle.std.proofs.Common.{ℕ, ◌-◌, ◌≤◌, Bool, ◌&&◌, leb, sym, ap, ◌∙◌, arith, rules, below_none, below_more}
+use Rattle.std.proofs.Common.{ℕ, Bool, ◌&&◌, leb, sym, ap, ◌∙◌, arith, rules, below_none, below_more}
 use Rattle.graph.specs.Words.{bit}
 use Rattle.graph.proofs.Facts.{lowest_is, lowest_none}
 use Rattle.graph.proofs.Bits.{bit_zero}
-use Rattle.machine.proofs.Lowest.{None}
 use Rattle.machine.proofs.ticking.first_beyond.Goals as goal
 
 pub returns-then-named-eq0 : goal.returns-then-named-eq0

@@ -1,8 +1,6 @@
 -- The loop's invariant: none that was passed is beyond. So the first that is beyond is the lowest; of the empty set there is none.
-use Rattle.std.proofs.Common.{ℕ, ◌-◌, ◌≤◌, Bool, ◌&&◌, leb, sym, ap, ◌∙◌, arith, rules, below_none, below_more}
+use Rattle.std.proofs.Common.{◌-◌, ◌≤◌, ◌&&◌, leb}
 use Rattle.graph.specs.Words.{bit}
-use Rattle.graph.proofs.Facts.{lowest_is, lowest_none}
-use Rattle.graph.proofs.Bits.{bit_zero}
 use Rattle.machine.proofs.Lowest.{None}
 use Rattle.machine.proofs.ticking.first_beyond.Given as goal
 

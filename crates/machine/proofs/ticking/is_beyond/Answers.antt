@@ -1,5 +1,5 @@
 -- A number is beyond if it is named and no task: the two tests, one after the other.
-use Rattle.std.proofs.Common.{refl, rules, eq-eqb, ne_eqb}
+use Rattle.std.proofs.Common.{refl, eq-eqb, ne_eqb}
 use Rattle.graph.specs.Words.{bit}
 use Rattle.machine.proofs.ticking.is_beyond.Goals as goal
 

@@ -2,7 +2,7 @@
 use Rattle.std.proofs.Common.{◌≡◌, ℕ, List, length, ◌∙◌, ap₂, rules}
 use Rattle.machine.specs.Steps.{released, offered}
 use Rattle.machine.proofs.Filling.{length_mapped}
-use Rattle.machine.proofs.Apart.{Apart, apart}
+use Rattle.machine.proofs.Apart.{apart}
 use Rattle.machine.proofs.Begun.{Begun, begun_at, mid_rest, mid_left}
 use Rattle.machine.proofs.Ready.{successors, ready_sets}
 use Rattle.machine.proofs.ticking.offered.Goals as goal

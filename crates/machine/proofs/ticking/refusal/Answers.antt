@@ -1,6 +1,5 @@
 -- The tests one after the other, each by what the function that makes it says: the first that fails gives the reply (proofs/Telling.antt).
-use Rattle.std.proofs.Common.{Bool, ap, ◌∙◌, arith, rules}
-use borrow.Author.Tests.{not-true, not-false}
+use Rattle.std.proofs.Common.{Bool, ap, ◌∙◌, arith}
 use Rattle.machine.specs.Rows.{refusal_of}
 use Rattle.machine.proofs.Lowest.{found, found_none}
 use Rattle.machine.proofs.Telling.{no_30, no_32, no_31, no_33, no_none}

@@ -1,5 +1,5 @@
 -- Eight times the unused place is the list of the definition.
-use Rattle.std.proofs.Common.{replicate, ap, rules}
+use Rattle.std.proofs.Common.{replicate, ap}
 use Rattle.machine.specs.declared.Triple.{Triple}
 use Rattle.graph.specs.Words.{row_from, row}
 use Rattle.machine.specs.Ticking.{refuse}

@@ -1,9 +1,8 @@
-use Rattle.std.proofs.Common.{◌≡◌, ℕ, ◌-◌, ◌%◌, ◌<◌, ◌≤◌, min, Bool, ltb, List, length, get_or, replicate, sym, refl, ap, ◌∙◌, arith, rules, le-ltb, lt-ltb}
+use Rattle.std.proofs.Common.{◌≡◌, ◌<◌, ◌≤◌, min, Bool, length, get_or, replicate, sym, refl, ap, ◌∙◌, arith, rules, le-ltb, lt-ltb}
 use Rattle.graph.specs.Words.{pick, row}
 use Rattle.graph.proofs.Facts.{length_row, row_at}
-use Rattle.machine.specs.declared.Triple.{Triple}
 use Rattle.machine.specs.Ticking.{nobody, triple_of, run_list}
-use Rattle.machine.proofs.Filling.{same_throughout, Filled, filled_none, filled_set, filled_kept, filled_all}
+use Rattle.machine.proofs.Filling.{same_throughout, filled_none, filled_set, filled_kept, filled_all}
 use Rattle.machine.proofs.ticking.run_list.Invariants.{key_in, place_in}
 use Rattle.machine.proofs.ticking.run_list.Goals as goal
 use Rattle.machine.proofs.ticking.run_list.Goals.{then-j-chosen, else-j-chosen}

@@ -1,10 +1,9 @@
 -- The loop's invariant: the places that were passed are those of the definition, the others unused.
-use Rattle.std.proofs.Common.{◌≡◌, ℕ, ◌-◌, ◌%◌, ◌<◌, ◌≤◌, min, Bool, ltb, List, length, get_or, replicate, sym, refl, ap, ◌∙◌, ⊎_elim, arith, rules, le-ltb, lt-ltb}
+use Rattle.std.proofs.Common.{ℕ, ◌-◌, ◌%◌, ◌≤◌, min, ltb, List, length, get_or, replicate}
 use Rattle.graph.specs.Words.{pick, row}
-use Rattle.graph.proofs.Facts.{length_row, row_at}
 use Rattle.machine.specs.declared.Triple.{Triple}
-use Rattle.machine.specs.Ticking.{nobody, triple_of, run_list}
-use Rattle.machine.proofs.Filling.{same_throughout, Filled, filled_none, filled_set, filled_kept, filled_all}
+use Rattle.machine.specs.Ticking.{nobody, triple_of}
+use Rattle.machine.proofs.Filling.{Filled}
 use Rattle.machine.proofs.ticking.run_list.Given as goal
 
 -- the number of the j-th vertex

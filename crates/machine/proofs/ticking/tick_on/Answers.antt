@@ -1,19 +1,18 @@
 -- What each call told of the rows, one after the other; then the tick is put together. Once the tick is admitted the rows are tidy after step 4, so only the
 -- tasks of which a job ended have a gap to close.
 use Rattle.std.proofs.Common.{◌≡◌, ℕ, List, length, sym, ap, ◌∙◌, subst, rules}
-use lib.Bits.{bit_or}
-use Rattle.graph.specs.Words.{set_of, Distinct}
+use Rattle.graph.specs.Words.{Distinct}
 use Rattle.graph.proofs.Facts.{length_row}
 use Rattle.machine.specs.declared.State.{State}
-use Rattle.machine.specs.Steps.{released, own_choice, worked, listed}
-use Rattle.machine.specs.Rows.{is_new_by, fits_by, refusal_of, rows_after}
+use Rattle.machine.specs.Steps.{released, own_choice, listed}
+use Rattle.machine.specs.Rows.{fits_by, refusal_of, rows_after}
 use Rattle.machine.specs.Ticking.{advance_to, advance}
 use Rattle.machine.proofs.Filling.{length_mapped}
 use Rattle.machine.proofs.Index.{released_clock}
-use Rattle.machine.proofs.Cases.{Admitted, admitted_advances}
+use Rattle.machine.proofs.Cases.{admitted_advances}
 use Rattle.machine.proofs.Own.{own_legal}
-use Rattle.machine.proofs.Apart.{Apart, apart}
-use Rattle.machine.proofs.Telling.{Told, refused}
+use Rattle.machine.proofs.Apart.{apart}
+use Rattle.machine.proofs.Telling.{refused}
 use Rattle.machine.proofs.Begun.{Begun, begun_at, deadline_at, mid_rest, rows_worked}
 use Rattle.machine.proofs.Tidying.{tidy}
 use Rattle.machine.proofs.ticking.tick_on.Goals as goal

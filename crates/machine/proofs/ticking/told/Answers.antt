@@ -1,5 +1,5 @@
 -- Steps 5 and 6 by rows: proofs/Ended.antt.
-use Rattle.std.proofs.Common.{ap, ap₂, rules}
+use Rattle.std.proofs.Common.{ap, ap₂}
 use Rattle.machine.specs.declared.State.{State}
 use Rattle.machine.specs.declared.Answer.{Answer}
 use Rattle.machine.specs.States.{wrap}

@@ -1,4 +1,3 @@
-use borrow.Author.Rules.{rules}
 use Rattle.quick.proofs.Yes.{file-laws}
 use Rattle.quick.proofs.answering.quick.Goals as goal
 

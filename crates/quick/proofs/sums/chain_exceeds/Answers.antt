@@ -3,7 +3,6 @@ use Prim.Native.Nat.{ℕ, ◌*◌}
 use native.Mathlib.Omega.{arith}
 use native.Mathlib.Nat.{le_trans, mul-le-mul_left}
 use lib.Dec.{ltb}
-use borrow.Author.Rules.{rules}
 use borrow.Author.Tests.{le-ltb}
 use Rattle.verdict.proofs.Figured.{product_fits}
 use Rattle.quick.proofs.sums.chain_exceeds.Goals as goal

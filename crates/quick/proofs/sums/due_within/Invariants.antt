@@ -1,17 +1,9 @@
 -- The loop's invariant: what the tasks so far owe, which is within `most`.
-use mathlib.Core.Path.{◌≡◌, refl, sym, ap₂, ◌∙◌}
-use Prim.Native.Nat.{ℕ, ◌+◌, ◌*◌, ◌-◌, ◌≤◌, ◌<◌}
-use native.Mathlib.Omega.{arith}
-use native.Mathlib.Nat.{mul-le-mul}
+use mathlib.Core.Path.{◌≡◌}
+use Prim.Native.Nat.{◌*◌, ◌-◌, ◌≤◌}
 use lib.ListN.{get_or}
-use borrow.Author.Rules.{rules}
 use Rattle.graph.specs.Words.{sum}
 use Rattle.verdict.specs.Verdicts.{rounded_up}
-use Rattle.verdict.proofs.Amounts.{sum_part}
-use Rattle.verdict.proofs.Figured.{sum_next, sum_done}
-use Rattle.quick.proofs.sums.due_within.Reads as reads
-use Rattle.quick.proofs.sums.due_within.Lts as lts
-use Rattle.quick.proofs.sums.rounded_up.Reads as rounded-up-reads
 use Rattle.quick.proofs.sums.due_within.Given as goal
 
 abbrev pub invariant-loop-i : goal.invariant-loop-i

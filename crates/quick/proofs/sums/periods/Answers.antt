@@ -1,9 +1,8 @@
 use mathlib.Core.Path.{refl}
-use Prim.Native.Nat.{◌-◌, ◌≤◌}
 use native.Mathlib.Omega.{arith}
 use borrow.Author.Rules.{rules}
 use Rattle.table.specs.Memory.{no_task, task, T}
-use Rattle.verdict.proofs.Figured.{Filled, filled_none, filled_next}
+use Rattle.verdict.proofs.Figured.{filled_none, filled_next}
 use Rattle.quick.proofs.sums.periods.Goals as goal
 
 pub loop-i-init : goal.loop-i-init

@@ -1,10 +1,7 @@
 -- The loop's invariant: the periods of the tasks so far.
-use mathlib.Core.Path.{refl}
 use Prim.Native.Nat.{◌-◌, ◌≤◌}
-use native.Mathlib.Omega.{arith}
-use borrow.Author.Rules.{rules}
-use Rattle.table.specs.Memory.{no_task, task, T}
-use Rattle.verdict.proofs.Figured.{Filled, filled_none, filled_next}
+use Rattle.table.specs.Memory.{T}
+use Rattle.verdict.proofs.Figured.{Filled}
 use Rattle.quick.proofs.sums.periods.Given as goal
 
 abbrev pub invariant-loop-i : goal.invariant-loop-i

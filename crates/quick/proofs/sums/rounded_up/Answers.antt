@@ -1,6 +1,5 @@
 use mathlib.Core.Path.{refl}
 use native.Mathlib.Omega.{arith}
-use borrow.Author.Rules.{rules}
 use Rattle.verdict.specs.Verdicts.{rounded_up}
 use Rattle.verdict.proofs.Amounts.{up_most}
 use Rattle.verdict.proofs.Figured.{quotient_fits}

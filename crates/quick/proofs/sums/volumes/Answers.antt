@@ -1,9 +1,8 @@
 use mathlib.Core.Path.{refl}
-use Prim.Native.Nat.{◌-◌, ◌≤◌, ◌<◌}
+use Prim.Native.Nat.{◌<◌}
 use native.Mathlib.Omega.{arith}
 use borrow.Author.Rules.{rules}
-use Rattle.verdict.specs.Verdicts.{vol}
-use Rattle.verdict.proofs.Figured.{Filled, filled_none, filled_next, vol_found}
+use Rattle.verdict.proofs.Figured.{filled_none, filled_next, vol_found}
 use Rattle.quick.proofs.sums.volumes.Goals as goal
 
 pub loop-i-init : goal.loop-i-init

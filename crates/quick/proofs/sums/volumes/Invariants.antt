@@ -1,10 +1,7 @@
 -- The loop's invariant: the vols of the tasks so far.
-use mathlib.Core.Path.{refl}
-use Prim.Native.Nat.{◌-◌, ◌≤◌, ◌<◌}
-use native.Mathlib.Omega.{arith}
-use borrow.Author.Rules.{rules}
+use Prim.Native.Nat.{◌-◌, ◌≤◌}
 use Rattle.verdict.specs.Verdicts.{vol}
-use Rattle.verdict.proofs.Figured.{Filled, filled_none, filled_next, vol_found}
+use Rattle.verdict.proofs.Figured.{Filled}
 use Rattle.quick.proofs.sums.volumes.Given as goal
 
 abbrev pub invariant-loop-i : goal.invariant-loop-i

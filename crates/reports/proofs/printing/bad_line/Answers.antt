@@ -4,7 +4,6 @@ use Prim.Native.Nat.{ℕ}
 use Rattle.text.specs.Text.{text, decimal}
 use Rattle.reports.specs.Report.{bad_line}
 use Rattle.text.proofs.Putting.{put_then, put_same}
-use borrow.Author.Rules.{rules}
 use Rattle.reports.proofs.printing.bad_line.Goals as goal
 
 pub returns : goal.returns

@@ -1,9 +1,7 @@
 use mathlib.Core.Path.{◌≡◌, ap}
-use Prim.Native.Nat.{ℕ, ◌+◌, ◌*◌, ◌≤◌, ◌-◌}
+use Prim.Native.Nat.{ℕ}
 use native.Mathlib.Omega.{arith}
-use borrow.Author.Rules.{rules}
 use Rattle.graph.specs.Words.{in_order}
-use Rattle.text.specs.Laid.{Put}
 use Rattle.text.proofs.Putting.{put_none, put_same, put_then, put_long, none_before, one_more_lem}
 use Rattle.reports.specs.Report.{vertex_at}
 use Rattle.reports.proofs.Lines.{vertex_is}

@@ -1,7 +1,6 @@
 use mathlib.Core.Path.{refl}
 use Rattle.text.specs.Text.{newline}
 use Rattle.text.proofs.Putting.{put_on}
-use borrow.Author.Rules.{rules}
 use Rattle.reports.proofs.printing.ended.Goals as goal
 
 pub returns : goal.returns

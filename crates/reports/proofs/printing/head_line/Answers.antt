@@ -2,7 +2,6 @@ use mathlib.Core.List.{append_assoc}
 use Rattle.text.specs.Text.{text}
 use Rattle.reports.specs.Report.{head_line}
 use Rattle.text.proofs.Putting.{put_then, put_same}
-use borrow.Author.Rules.{rules}
 use Rattle.reports.proofs.printing.head_line.Goals as goal
 
 pub returns : goal.returns

@@ -1,7 +1,6 @@
 use mathlib.Core.Path.{refl}
 use native.Mathlib.Omega.{arith}
 use Rattle.text.proofs.Putting.{put_then, put_on, decimal_within}
-use borrow.Author.Rules.{rules}
 use Rattle.reports.proofs.printing.labelled.Goals as goal
 
 pub overflow_add-result : goal.overflow_add-result

@@ -2,6 +2,7 @@ use mathlib.Core.Path.{ap}
 use mathlib.Core.List.{◌++◌, append_assoc}
 use lib.IntN.{ℤ}
 use mir.Syntax.{w64}
+use mir.Val.{SFits}
 use mir.Facts.{to_z-of_z}
 use Rattle.text.specs.Text.{text, signed}
 use Rattle.reports.specs.Report.{last_line}
@@ -12,6 +13,7 @@ use Rattle.reports.proofs.printing.last_line.Goals as goal
 pub returns : goal.returns
 unfolding last_line text
 returns c =
-    let z = ap (λ (y : ℤ). text " margin " ++ signed y) (to_z-of_z {c = w64} {z = c.args.v.margin} (record { sfits = c.struct_told-1.given.1.1.1.0.1 })) in
+    let s : SFits w64 c.args.v.margin = search rules in
+    let z = ap (λ (y : ℤ). text " margin " ++ signed y) (to_z-of_z s) in
     let r = put_then c.answer-p.ensures.0 (put_then c.labelled-q.ensures.0 (put_then (put_same c.with_margin-a.ensures.0 z) c.with_chain.ensures)) in
     put_same r (simp append_assoc)

@@ -1,5 +1,4 @@
 use Rattle.reports.proofs.Reported.{line-laws, put_got}
-use borrow.Author.Rules.{rules}
 use Rattle.reports.proofs.printing.lines_of.Goals as goal
 
 pub returns-in_default : goal.returns-in_default

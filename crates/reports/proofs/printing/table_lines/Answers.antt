@@ -2,7 +2,6 @@ use native.Mathlib.Omega.{arith}
 use Rattle.reports.specs.Found.{lines_on}
 use Rattle.reports.proofs.Length.{head_most, lines_most}
 use Rattle.text.proofs.Putting.{put_then}
-use borrow.Author.Rules.{rules}
 use Rattle.reports.proofs.printing.table_lines.Goals as goal
 
 pub task_lines-q-requires : goal.task_lines-q-requires
@@ -25,4 +24,4 @@ last_line-requires c =
 pub returns : goal.returns
 unfolding lines_on
 returns c =
-    put_then (put_then c.head_line-p.ensures c.task_lines-q.ensures) c.last_Line.ensures
+    put_then (put_then c.head_line-p.ensures c.task_lines-q.ensures) c.last_line.ensures

@@ -1,18 +1,9 @@
 -- One line behind another. The invariant: the lines of the first k tasks are put.
-use mathlib.Core.Path.{◌≡◌, ap}
-use Prim.Native.Nat.{ℕ, ◌≤◌, ◌-◌}
-use native.Mathlib.Omega.{arith}
-use mir.Syntax.{w64}
-use mir.Val.{SFits}
-use mir.Facts.{to_z-of_z}
-use borrow.Author.Rules.{rules}
+use Prim.Native.Nat.{◌≤◌, ◌-◌}
 use Rattle.graph.specs.Words.{in_order}
 use Rattle.text.specs.Laid.{Put}
-use Rattle.text.proofs.Putting.{put_none, put_same, put_then, put_long, none_before, one_more_lem}
 use Rattle.reports.specs.Report.{task_line}
 use Rattle.reports.specs.Found.{figures_in}
-use Rattle.reports.proofs.Length.{lines_most}
-use Rattle.reports.proofs.Lines.{found_figures}
 use Rattle.reports.proofs.printing.task_lines.Given as goal
 
 abbrev pub invariant-loop-k : goal.invariant-loop-k

@@ -1,7 +1,6 @@
 use mathlib.Core.Path.{refl}
 use Rattle.text.specs.Text.{text}
 use Rattle.text.proofs.Putting.{put_then, put_on}
-use borrow.Author.Rules.{rules}
 use Rattle.reports.proofs.printing.with_chain.Goals as goal
 
 pub returns : goal.returns

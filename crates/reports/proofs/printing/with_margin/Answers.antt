@@ -4,7 +4,6 @@ use native.Mathlib.Omega.{arith}
 use Rattle.text.specs.Text.{text, signed}
 use Rattle.text.proofs.Putting.{put_then, put_on, put_same}
 use Rattle.reports.proofs.Lines.{signed_within}
-use borrow.Author.Rules.{rules}
 use Rattle.reports.proofs.printing.with_margin.Goals as goal
 
 pub overflow_add-result : goal.overflow_add-result

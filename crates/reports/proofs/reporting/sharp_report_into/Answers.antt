@@ -4,7 +4,6 @@ use Prim.Native.Nat.{ℕ}
 use lib.ListN.{length}
 use Rattle.reports.specs.Report.{report_into}
 use Rattle.reports.proofs.Reported.{sharp_ready, sharp_text}
-use borrow.Author.Rules.{rules}
 use Rattle.reports.proofs.reporting.sharp_report_into.Goals as goal
 
 pub text_into-requires : goal.text_into-requires

@@ -1,7 +1,6 @@
 use mathlib.Core.Path.{ap, ◌∙◌}
 use Rattle.reports.specs.Report.{reported}
 use Rattle.reports.proofs.Reported.{sharp_ready, sharp_text}
-use borrow.Author.Rules.{rules}
 use Rattle.reports.proofs.reporting.sharp_report_of.Goals as goal
 
 pub text_of-requires : goal.text_of-requires

@@ -3,7 +3,6 @@ use native.Mathlib.Omega.{arith}
 use lib.ListN.{length-take}
 use Rattle.text.specs.Laid.{laid}
 use Rattle.reports.proofs.Reported.{put_len, put_within, put_text, into_short, into_fits}
-use borrow.Author.Rules.{rules}
 use Rattle.reports.proofs.reporting.text_into.Goals as goal
 
 pub lines_of-len-requires : goal.lines_of-len-requires

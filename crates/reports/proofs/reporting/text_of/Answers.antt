@@ -1,5 +1,4 @@
 use Rattle.reports.proofs.Reported.{text_put}
-use borrow.Author.Rules.{rules}
 use Rattle.reports.proofs.reporting.text_of.Goals as goal
 
 pub lines_of-len-requires : goal.lines_of-len-requires

@@ -1,10 +1,7 @@
 -- The loop's invariant: what the vertices so far ask for, and a bound on it.
-use mathlib.Core.Path.{◌≡◌, sym, ap, ◌∙◌}
-use Prim.Native.Nat.{ℕ, ◌+◌, ◌*◌, ◌-◌, ◌≤◌}
-use native.Mathlib.Omega.{arith}
+use mathlib.Core.Path.{◌≡◌}
+use Prim.Native.Nat.{◌*◌, ◌-◌, ◌≤◌}
 use Rattle.sharp.specs.Closed.{asked_from}
-use Rattle.sharp.proofs.Reckoned.{asked_none, asked_next}
-use borrow.Author.Rules.{rules}
 use Rattle.sharp.proofs.closed.asked_from.Given as goal
 
 abbrev pub invariant-loop-u : goal.invariant-loop-u

@@ -1,5 +1,5 @@
 use mathlib.Core.Path.{◌≡◌, sym, ap, ◌∙◌}
-use Prim.Native.Nat.{ℕ, ◌+◌, ◌*◌, ◌-◌, ◌≤◌}
+use Prim.Native.Nat.{ℕ, ◌+◌}
 use native.Mathlib.Omega.{arith}
 use Rattle.sharp.specs.Closed.{due_by}
 use Rattle.sharp.proofs.Reckoned.{due_none, due_next}

@@ -1,10 +1,7 @@
 -- The loop's invariant: what the tasks so far ask for, and a bound on it.
-use mathlib.Core.Path.{◌≡◌, sym, ap, ◌∙◌}
-use Prim.Native.Nat.{ℕ, ◌+◌, ◌*◌, ◌-◌, ◌≤◌}
-use native.Mathlib.Omega.{arith}
+use mathlib.Core.Path.{◌≡◌}
+use Prim.Native.Nat.{◌*◌, ◌-◌, ◌≤◌}
 use Rattle.sharp.specs.Closed.{due_by}
-use Rattle.sharp.proofs.Reckoned.{due_none, due_next}
-use borrow.Author.Rules.{rules}
 use Rattle.sharp.proofs.closed.due_by.Given as goal
 
 abbrev pub invariant-loop-i : goal.invariant-loop-i

@@ -3,7 +3,6 @@ use Prim.Native.Nat.{◌-◌}
 use native.Mathlib.Omega.{arith}
 use native.Mathlib.Nat.{mod-le, div-le_self}
 use Rattle.sharp.proofs.Reckoned.{part_high, part_low, part_full, part_only, full_high}
-use borrow.Author.Rules.{rules}
 use Rattle.sharp.proofs.closed.part.Goals as goal
 
 pub returns-then-y-c : goal.returns-then-y-c

@@ -1,7 +1,6 @@
 use mathlib.Core.Path.{refl}
 use native.Mathlib.Omega.{arith}
 use Rattle.sharp.proofs.Reckoned.{ramp_steps}
-use borrow.Author.Rules.{rules}
 use Rattle.sharp.proofs.closed.ramp.Goals as goal
 
 pub overflow_mul-result : goal.overflow_mul-result

@@ -1,14 +1,9 @@
 use mathlib.Core.Path.{◌≡◌, refl, ◌∙◌}
-use Prim.Native.Nat.{ℕ, ◌-◌, ◌≤◌, ◌<◌}
+use Prim.Native.Nat.{ℕ}
 use native.Mathlib.Omega.{arith}
-use lib.ListN.{length, length-set}
-use Rattle.table.specs.declared.Table.{Table}
-use Rattle.table.specs.Good.{GoodTable}
-use Rattle.verdict.proofs.Figured.{Filled, filled_none, filled_next, filled_up_to}
-use Rattle.sharp.specs.Sharp.{sharp_due}
-use Rattle.sharp.specs.Gathered.{Gathered}
+use lib.ListN.{length-set}
+use Rattle.verdict.proofs.Figured.{filled_none, filled_next, filled_up_to}
 use Rattle.sharp.proofs.Judged.{few}
-use borrow.Author.Rules.{rules}
 use Rattle.sharp.proofs.finding.dues_of.Goals as goal
 
 pub loop-k-init : goal.loop-k-init

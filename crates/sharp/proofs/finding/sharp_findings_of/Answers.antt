@@ -1,6 +1,5 @@
 use Rattle.verdict.proofs.Judged.{good_read}
 use Rattle.sharp.proofs.Judged.{file-laws, findings_done}
-use borrow.Author.Rules.{rules}
 use Rattle.sharp.proofs.finding.sharp_findings_of.Goals as goal
 
 pub returns-in_default : goal.returns-in_default

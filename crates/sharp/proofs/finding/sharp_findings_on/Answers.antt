@@ -4,7 +4,6 @@ use Rattle.table.specs.declared.Table.{Table}
 use Rattle.table.specs.Memory.{no_task, task, succ}
 use Rattle.sharp.specs.Gathered.{table_of}
 use Rattle.sharp.proofs.Judged.{task_there, with_chain_lem, all_found}
-use borrow.Author.Rules.{rules}
 use Rattle.sharp.proofs.finding.sharp_findings_on.Goals as goal
 
 pub bounds-tasks-k : goal.bounds-tasks-k

@@ -1,13 +1,10 @@
 use mathlib.Core.Path.{◌≡◌, refl, ◌∙◌}
-use Prim.Native.Nat.{ℕ, ◌+◌, ◌*◌, ◌-◌, ◌≤◌, ◌<◌}
+use Prim.Native.Nat.{◌+◌, ◌*◌, ◌<◌}
 use native.Mathlib.Omega.{arith}
 use native.Mathlib.Decide.{ℕ_discrete}
-use lib.ListN.{length, get_or}
 use Rattle.table.specs.declared.Table.{Table}
 use Rattle.table.specs.Memory.{no_task, task, vertices, D, T, succ}
-use Rattle.verdict.specs.Verdicts.{vol, len}
-use Rattle.verdict.proofs.Figured.{Filled, filled_none, filled_next, filled_up_to, vol_found}
-use Rattle.sharp.specs.Sharp.{tail_of}
+use Rattle.verdict.proofs.Figured.{filled_none, filled_next, filled_up_to, vol_found}
 use Rattle.sharp.specs.Gathered.{table_of}
 use Rattle.sharp.proofs.Tails.{tails_found, tails_small, len_found}
 use borrow.Author.Rules.{rules}

@@ -1,17 +1,12 @@
 -- The loop's invariant: the rows of the tasks so far, and their tails at their places.
-use mathlib.Core.Path.{◌≡◌, refl, ◌∙◌}
+use mathlib.Core.Path.{◌≡◌}
 use Prim.Native.Nat.{ℕ, ◌+◌, ◌*◌, ◌-◌, ◌≤◌, ◌<◌}
-use native.Mathlib.Omega.{arith}
-use native.Mathlib.Decide.{ℕ_discrete}
 use lib.ListN.{length, get_or}
-use Rattle.table.specs.declared.Table.{Table}
-use Rattle.table.specs.Memory.{no_task, task, vertices, D, T, succ}
+use Rattle.table.specs.Memory.{vertices, D, T}
 use Rattle.verdict.specs.Verdicts.{vol, len}
-use Rattle.verdict.proofs.Figured.{Filled, filled_none, filled_next, filled_up_to, vol_found}
+use Rattle.verdict.proofs.Figured.{Filled}
 use Rattle.sharp.specs.Sharp.{tail_of}
 use Rattle.sharp.specs.Gathered.{table_of}
-use Rattle.sharp.proofs.Tails.{tails_found, tails_small, len_found}
-use borrow.Author.Rules.{rules}
 use Rattle.sharp.proofs.gathering.gathered.Given as goal
 
 abbrev pub invariant-loop-i : goal.invariant-loop-i

@@ -1,13 +1,7 @@
-use mir.Syntax.{w32}
-use mir.Val.{Fits}
-use mathlib.Core.Path.{◌≡◌, refl}
-use mathlib.Core.Logic.{⊎_elim}
-use Prim.Native.Nat.{ℕ, ◌+◌, ◌-◌, ◌≤◌, ◌<◌}
-use native.Mathlib.Omega.{arith}
+use mathlib.Core.Path.{◌≡◌}
+use Prim.Native.Nat.{◌+◌, ◌-◌, ◌≤◌}
 use lib.ListN.{get_or}
 use Rattle.graph.specs.Words.{largest}
-use Rattle.sharp.proofs.Reckoned.{largest_next}
-use borrow.Author.Rules.{rules}
 use Rattle.sharp.proofs.gathering.longest_of.Given as goal
 
 abbrev pub invariant-loop-u : goal.invariant-loop-u

@@ -1,8 +1,6 @@
 use mathlib.Core.Path.{◌≡◌, refl}
-use Prim.Native.Nat.{ℕ, ◌+◌, ◌*◌, ◌-◌, ◌≤◌, ◌<◌}
 use native.Mathlib.Omega.{arith}
-use lib.ListN.{length, get_or}
-use Rattle.sharp.proofs.Reckoned.{Put, put_none, put_next}
+use Rattle.sharp.proofs.Reckoned.{put_none, put_next}
 use borrow.Author.Rules.{rules}
 use Rattle.sharp.proofs.gathering.put_tails.Goals as goal
 

@@ -1,10 +1,6 @@
 -- The loop's invariant: the tails of the vertices so far are at their places.
-use mathlib.Core.Path.{◌≡◌, refl}
-use Prim.Native.Nat.{ℕ, ◌+◌, ◌*◌, ◌-◌, ◌≤◌, ◌<◌}
-use native.Mathlib.Omega.{arith}
-use lib.ListN.{length, get_or}
-use Rattle.sharp.proofs.Reckoned.{Put, put_none, put_next}
-use borrow.Author.Rules.{rules}
+use Prim.Native.Nat.{◌-◌, ◌≤◌}
+use Rattle.sharp.proofs.Reckoned.{Put}
 use Rattle.sharp.proofs.gathering.put_tails.Given as goal
 
 abbrev pub invariant-loop-u : goal.invariant-loop-u

@@ -1,7 +1,6 @@
 use Prim.Native.Nat.{◌<◌}
 use native.Mathlib.Omega.{arith}
 use Rattle.sharp.proofs.Judged.{due_ready, due_found}
-use borrow.Author.Rules.{rules}
 use Rattle.sharp.proofs.judging.due_for.Goals as goal
 
 pub due_by-requires : goal.due_by-requires

@@ -1,14 +1,9 @@
 -- The loop's invariant: no task so far has a chain that is too long.
-use mathlib.Core.Path.{◌≡◌, sym}
+use mathlib.Core.Path.{◌≡◌}
 use mathlib.Core.Bool.{false}
 use Prim.Native.Nat.{ℕ, ◌-◌, ◌≤◌, ◌<◌}
-use native.Mathlib.Omega.{arith}
-use native.Mathlib.Decide.{ℕ_discrete}
 use lib.Dec.{ltb}
 use lib.ListN.{get_or}
-use borrow.Author.Tests.{lt-ltb, le-ltb}
-use Rattle.graph.proofs.Facts.{lowest_is, lowest_none}
-use borrow.Author.Rules.{rules}
 use Rattle.sharp.proofs.judging.first_late.Given as goal
 
 abbrev pub invariant-loop-k : goal.invariant-loop-k

@@ -1,5 +1,4 @@
 use mathlib.Core.Path.{◌∙◌}
-use Prim.Native.Nat.{◌<◌}
 use native.Mathlib.Omega.{arith}
 use lib.Dec.{ltb}
 use lib.ListN.{get_or}
@@ -8,7 +7,6 @@ use mir.Syntax.{w64}
 use mir.Val.{SFits}
 use Rattle.sharp.proofs.Reckoned.{lowest_end}
 use Rattle.sharp.proofs.Judged.{few, met_late}
-use borrow.Author.Rules.{rules}
 use Rattle.sharp.proofs.judging.judged.Goals as goal
 
 pub first_late-k-requires : goal.first_late-k-requires

@@ -5,7 +5,6 @@ use mir.Facts.{to_z-of_z}
 use mir.Syntax.{w64}
 use mir.Val.{SFits}
 use Rattle.sharp.proofs.Judged.{margin_found}
-use borrow.Author.Rules.{rules}
 use Rattle.sharp.proofs.judging.margin_for.Goals as goal
 
 pub returns : goal.returns

@@ -1,13 +1,13 @@
 use mathlib.Core.Path.{◌≡◌, sym, ◌∙◌}
-use Prim.Native.Nat.{◌-◌, ◌≤◌, ◌<◌}
+use Prim.Native.Nat.{◌<◌}
 use native.Mathlib.Omega.{arith}
 use lib.IntN.{pos}
-use mir.Facts.{to_z-of_z, Fits-of_z}
+use mir.Facts.{to_z-of_z}
 use mir.Syntax.{w64}
-use mir.Val.{to_z, of_z, Fits, SFits}
+use mir.Val.{to_z, of_z, SFits}
 use Rattle.table.specs.declared.Table.{Table}
 use Rattle.table.specs.Good.{GoodTable}
-use Rattle.verdict.proofs.Walk.{SoFar, none_yet, met_first, kept, taken}
+use Rattle.verdict.proofs.Walk.{none_yet, met_first, kept, taken}
 use Rattle.sharp.specs.Sharp.{sharp_margin}
 use Rattle.sharp.specs.Gathered.{Gathered}
 use Rattle.sharp.proofs.Judged.{above, few, met_negative, all_passed}

@@ -1,11 +1,10 @@
-use mathlib.Core.Path.{◌≡◌, refl, sym, ap₂, ◌∙◌}
-use Prim.Native.Nat.{ℕ, ◌+◌, ◌*◌, ◌-◌, ◌≤◌}
+use mathlib.Core.Path.{refl, sym, ap₂, ◌∙◌}
+use Prim.Native.Nat.{ℕ, ◌+◌, ◌*◌, ◌≤◌}
 use native.Mathlib.Omega.{arith}
 use native.Mathlib.Nat.{mul-le-mul}
 use lib.ListN.{get_or}
 use borrow.Author.Rules.{rules}
 use Rattle.graph.specs.Words.{sum}
-use Rattle.verdict.specs.Verdicts.{rounded_up}
 use Rattle.verdict.proofs.Figured.{sum_next, sum_done}
 use Rattle.verdict.proofs.figuring.due_of.Goals as goal
 
@@ -29,10 +28,10 @@ overflow_add-due c =
 pub loop-i-preserved : goal.loop-i-preserved
 loop-i-preserved c =
     let part : c.rounded_up.result * get_or c.args.vols c.loop-i.i 0 ≤ 1000000 * 16000000 = mul-le-mul c.rounded_up.ensures.1 (c.requires.2 c.loop-i.i (omega arith)).2 in (
-  search rules,
-  ap₂ (λ (x y : ℕ). x + y * get_or c.args.vols c.loop-i.i 0) c.loop-i.invariant.1 c.rounded_up.ensures.0 ∙ sym (sum_next _ _),
-  omega (arith, part),
-)
+      search rules,
+      ap₂ (λ (x y : ℕ). x + y * get_or c.args.vols c.loop-i.i 0) c.loop-i.invariant.1 c.rounded_up.ensures.0 ∙ sym (sum_next _ _),
+      omega (arith, part),
+    )
 
 pub returns : goal.returns
 returns c = sum_done _ _ _ _ (omega arith) c.loop-i.invariant.1

@@ -1,13 +1,9 @@
 -- The loop's invariant: what the tasks so far owe, and a bound on it.
-use mathlib.Core.Path.{◌≡◌, refl, sym, ap₂, ◌∙◌}
-use Prim.Native.Nat.{ℕ, ◌+◌, ◌*◌, ◌-◌, ◌≤◌}
-use native.Mathlib.Omega.{arith}
-use native.Mathlib.Nat.{mul-le-mul}
+use mathlib.Core.Path.{◌≡◌}
+use Prim.Native.Nat.{◌*◌, ◌-◌, ◌≤◌}
 use lib.ListN.{get_or}
-use borrow.Author.Rules.{rules}
 use Rattle.graph.specs.Words.{sum}
 use Rattle.verdict.specs.Verdicts.{rounded_up}
-use Rattle.verdict.proofs.Figured.{sum_next, sum_done}
 use Rattle.verdict.proofs.figuring.due_of.Given as goal
 
 abbrev pub invariant-loop-i : goal.invariant-loop-i

@@ -1,7 +1,6 @@
 use mathlib.Core.Path.{ap, ◌∙◌}
 use mathlib.Core.List.{List}
 use Prim.Native.Nat.{ℕ}
-use borrow.Author.Rules.{rules}
 use Rattle.graph.specs.Graph.{longest_of}
 use Rattle.verdict.proofs.figuring.len_of.Goals as goal
 

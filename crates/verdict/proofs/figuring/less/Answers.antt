@@ -3,7 +3,6 @@ use lib.IntN.{ℤ}
 use mir.Syntax.{w64}
 use mir.Val.{SFits}
 use mir.Facts.{to_z-of_z}
-use borrow.Author.Rules.{rules}
 use Rattle.verdict.proofs.Figured.{minus_fits, cast_minus}
 use Rattle.verdict.proofs.figuring.less.Goals as goal
 

@@ -1,12 +1,11 @@
 use mathlib.Core.Path.{ap, ap₂, ◌∙◌}
-use Prim.Native.Nat.{ℕ, ◌+◌, ◌*◌, ◌^◌, ◌≤◌, ◌<◌}
+use Prim.Native.Nat.{ℕ, ◌+◌, ◌*◌}
 use native.Mathlib.Omega.{arith}
 use lib.IntN.{pos, ◌-ℤ◌}
 use mir.Syntax.{w64}
 use mir.Val.{SFits}
 use mir.Facts.{to_z-of_z}
 use Rattle.verdict.proofs.Figured.{spent_within, allowed_within}
-use borrow.Author.Rules.{rules}
 use Rattle.verdict.proofs.figuring.margin_from.Goals as goal
 
 pub overflow_mul-m : goal.overflow_mul-m

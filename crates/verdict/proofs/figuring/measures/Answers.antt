@@ -1,10 +1,10 @@
 use mathlib.Core.Path.{◌≡◌, refl}
-use Prim.Native.Nat.{◌-◌, ◌≤◌, ◌<◌}
+use Prim.Native.Nat.{◌≤◌, ◌<◌}
 use native.Mathlib.Omega.{arith}
 use borrow.Author.Rules.{rules}
 use Rattle.table.specs.Memory.{no_task, task, vertices, D, T, succ, cost}
-use Rattle.verdict.specs.Verdicts.{vol, len}
-use Rattle.verdict.proofs.Figured.{Filled, filled_none, filled_next, filled_up_to, len_found}
+use Rattle.verdict.specs.Verdicts.{vol}
+use Rattle.verdict.proofs.Figured.{filled_none, filled_next, filled_up_to, len_found}
 use Rattle.verdict.proofs.figuring.measures.Goals as goal
 
 pub loop-i-init : goal.loop-i-init

@@ -1,11 +1,8 @@
 -- The loop's invariant: the measures of the tasks so far.
-use mathlib.Core.Path.{◌≡◌, refl}
-use Prim.Native.Nat.{◌-◌, ◌≤◌, ◌<◌}
-use native.Mathlib.Omega.{arith}
-use borrow.Author.Rules.{rules}
-use Rattle.table.specs.Memory.{no_task, task, vertices, D, T, succ, cost}
+use Prim.Native.Nat.{◌-◌, ◌≤◌}
+use Rattle.table.specs.Memory.{D, T}
 use Rattle.verdict.specs.Verdicts.{vol, len}
-use Rattle.verdict.proofs.Figured.{Filled, filled_none, filled_next, filled_up_to, len_found}
+use Rattle.verdict.proofs.Figured.{Filled}
 use Rattle.verdict.proofs.figuring.measures.Given as goal
 
 abbrev pub invariant-loop-i : goal.invariant-loop-i

@@ -1,8 +1,6 @@
 use mathlib.Core.Path.{◌≡◌, refl}
-use Prim.Native.Nat.{◌+◌, ◌*◌, ◌-◌, ◌≤◌, ◌<◌}
 use native.Mathlib.Omega.{arith}
-use lib.ListN.{get_or}
-use Rattle.verdict.proofs.Figured.{Filled, filled_none, filled_next, filled_row, costs_none}
+use Rattle.verdict.proofs.Figured.{filled_none, filled_next, filled_row, costs_none}
 use borrow.Author.Rules.{rules}
 use Rattle.verdict.proofs.figuring.own_costs.Goals as goal
 

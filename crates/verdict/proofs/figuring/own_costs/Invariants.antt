@@ -1,10 +1,7 @@
 -- The loop's invariant: the costs of the vertices so far.
-use mathlib.Core.Path.{◌≡◌, refl}
 use Prim.Native.Nat.{◌+◌, ◌*◌, ◌-◌, ◌≤◌, ◌<◌}
-use native.Mathlib.Omega.{arith}
 use lib.ListN.{get_or}
-use Rattle.verdict.proofs.Figured.{Filled, filled_none, filled_next, filled_row, costs_none}
-use borrow.Author.Rules.{rules}
+use Rattle.verdict.proofs.Figured.{Filled}
 use Rattle.verdict.proofs.figuring.own_costs.Given as goal
 
 abbrev pub invariant-loop-u : goal.invariant-loop-u

@@ -1,11 +1,8 @@
 -- The loop's invariant: the sum of the costs so far, and a bound on it.
-use mathlib.Core.Path.{◌≡◌, refl, sym, ap₂, ◌∙◌}
-use Prim.Native.Nat.{ℕ, ◌+◌, ◌*◌, ◌-◌, ◌≤◌}
-use native.Mathlib.Omega.{arith}
+use mathlib.Core.Path.{◌≡◌}
+use Prim.Native.Nat.{◌+◌, ◌*◌, ◌-◌, ◌≤◌}
 use lib.ListN.{get_or}
-use borrow.Author.Rules.{rules}
 use Rattle.graph.specs.Words.{sum}
-use Rattle.verdict.proofs.Figured.{sum_next, sum_done}
 use Rattle.verdict.proofs.figuring.vol_of.Given as goal
 
 abbrev pub invariant-loop-u : goal.invariant-loop-u

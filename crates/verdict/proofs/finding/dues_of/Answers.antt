@@ -1,13 +1,8 @@
 use mathlib.Core.Path.{◌≡◌, refl, ◌∙◌}
-use Prim.Native.Nat.{ℕ, ◌-◌, ◌≤◌, ◌<◌}
+use Prim.Native.Nat.{ℕ, ◌<◌}
 use native.Mathlib.Omega.{arith}
-use borrow.Author.Rules.{rules}
-use lib.ListN.{length, length-set}
-use Rattle.table.specs.declared.Table.{Table}
-use Rattle.table.specs.Good.{GoodTable}
-use Rattle.verdict.specs.Verdicts.{due}
-use Rattle.verdict.specs.Measured.{Holds}
-use Rattle.verdict.proofs.Figured.{Filled, filled_none, filled_next, filled_up_to, few_held, held_due_ready, held_due}
+use lib.ListN.{length-set}
+use Rattle.verdict.proofs.Figured.{filled_none, filled_next, filled_up_to, few_held, held_due_ready, held_due}
 use Rattle.verdict.proofs.finding.dues_of.Goals as goal
 
 pub loop-k-init : goal.loop-k-init

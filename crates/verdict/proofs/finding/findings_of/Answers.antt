@@ -1,5 +1,4 @@
 use Rattle.verdict.proofs.Judged.{file-laws}
-use borrow.Author.Rules.{rules}
 use Rattle.verdict.proofs.finding.findings_of.Goals as goal
 
 pub returns-in_default : goal.returns-in_default

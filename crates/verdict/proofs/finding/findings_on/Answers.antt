@@ -1,4 +1,3 @@
-use borrow.Author.Rules.{rules}
 use Rattle.verdict.proofs.Judged.{all_found}
 use Rattle.verdict.proofs.finding.findings_on.Goals as goal
 

@@ -1,4 +1,3 @@
-use borrow.Author.Rules.{rules}
 use Rattle.verdict.proofs.Judged.{none_found}
 use Rattle.verdict.proofs.finding.no_findings.Goals as goal
 

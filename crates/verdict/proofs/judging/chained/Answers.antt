@@ -1,6 +1,5 @@
 use mathlib.Core.Path.{◌∙◌}
 use native.Mathlib.Omega.{arith}
-use borrow.Author.Rules.{rules}
 use Rattle.table.specs.Memory.{no_task, task, succ}
 use Rattle.verdict.proofs.Judged.{task_there, with_chain_lem}
 use Rattle.verdict.proofs.judging.chained.Goals as goal

@@ -6,7 +6,6 @@ use mir.Val.{SFits}
 use mir.Facts.{to_z-of_z}
 use Rattle.verdict.proofs.Figured.{few_held, held_due_ready, held_due, held_margin}
 use Rattle.verdict.proofs.Judged.{file-laws, good_read, figures_past, figures_got, figures_are}
-use borrow.Author.Rules.{rules}
 use Rattle.verdict.proofs.judging.figures_of.Goals as goal
 
 pub returns-in_default : goal.returns-in_default

@@ -1,18 +1,17 @@
 use mathlib.Core.Path.{◌≡◌, ◌∙◌}
-use mathlib.Core.Logic.{⊎_elim}
-use Prim.Native.Nat.{◌-◌, ◌≤◌, ◌<◌}
+use Prim.Native.Nat.{◌<◌}
 use native.Mathlib.Omega.{arith}
 use lib.IntN.{pos}
-use mir.Facts.{to_z-of_z, Fits-of_z}
+use mir.Facts.{to_z-of_z}
 use mir.Syntax.{w64}
-use mir.Val.{to_z, of_z, Fits, SFits}
+use mir.Val.{to_z, of_z, SFits}
 use borrow.Author.Rules.{rules}
 use Rattle.table.specs.declared.Table.{Table}
 use Rattle.table.specs.Good.{GoodTable}
 use Rattle.verdict.specs.Verdicts.{margin}
 use Rattle.verdict.specs.Measured.{Holds}
 use Rattle.verdict.proofs.Figured.{few_held, held_due_ready, held_due, held_margin}
-use Rattle.verdict.proofs.Walk.{SoFar, none_yet, met_first, kept, taken}
+use Rattle.verdict.proofs.Walk.{none_yet, met_first, kept, taken}
 use Rattle.verdict.proofs.Judged.{above, met_negative, all_passed}
 use Rattle.verdict.proofs.judging.judged.Goals as goal
 use Rattle.verdict.proofs.judging.judged.Goals.{then-z-best, else-z-best}

@@ -2,7 +2,6 @@ use mathlib.Core.Path.{ap₂}
 use mathlib.Core.List.{[]}
 use Prim.Native.Nat.{ℕ}
 use lib.IntN.{pos}
-use borrow.Author.Rules.{rules}
 use Rattle.graph.specs.Words.{row_from, row}
 use Rattle.verdict.specs.Verdicts.{in_places, unread}
 use Rattle.verdict.proofs.judging.unread.Goals as goal

@@ -1,4 +1,3 @@
-use borrow.Author.Rules.{rules}
 use Rattle.verdict.proofs.judging.verdict_on.Goals as goal
 
 pub chained-requires : goal.chained-requires
