@@ -5,7 +5,7 @@ use borrow.Author.Rules.{rules}
 use Rattle.trial_journal.proofs.main.Given as goal
 
 abbrev pub invariant-loop-left : goal.invariant-loop-left
-invariant-loop-left l = (length l.file ≡ 65536) × (length l.rows ≡ 65536)
+invariant-loop-left g l = (length l.file ≡ 65536) × (length l.rows ≡ 65536)
 
 abbrev pub decreases-loop-left : goal.decreases-loop-left
-decreases-loop-left l = l.left
+decreases-loop-left g l = l.left

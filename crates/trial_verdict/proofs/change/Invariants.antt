@@ -5,7 +5,7 @@ use borrow.Author.Rules.{rules}
 use Rattle.trial_verdict.proofs.change.Given as goal
 
 abbrev pub invariant-loop-left : goal.invariant-loop-left
-invariant-loop-left l = length l.file ≡ length l.initial.file
+invariant-loop-left g l = length l.file ≡ length l.initial.file
 
 abbrev pub decreases-loop-left : goal.decreases-loop-left
-decreases-loop-left l = l.left
+decreases-loop-left g l = l.left

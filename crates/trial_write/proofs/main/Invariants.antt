@@ -5,7 +5,7 @@ use borrow.Author.Rules.{rules}
 use Rattle.trial_write.proofs.main.Given as goal
 
 abbrev pub invariant-loop-left : goal.invariant-loop-left
-invariant-loop-left l = (length l.bytes ≡ 65536) × (length l.buffer ≡ 65536)
+invariant-loop-left g l = (length l.bytes ≡ 65536) × (length l.buffer ≡ 65536)
 
 abbrev pub decreases-loop-left : goal.decreases-loop-left
-decreases-loop-left l = l.left
+decreases-loop-left g l = l.left

@@ -1,9 +1,0 @@
--- `print` is safe: a line lies within its bytes.
-use Rattle.std.proofs.Common.{◌≡◌, length, arith, length-take, rules}
-use Rattle.judge.proofs.print.Goals as goal
-
-pub slice_bounds-words-end : goal.slice_bounds-words-end
-slice_bounds-words-end c = let h : length c.args.line.bytes ≡ 2048 = search rules in omega arith
-
-pub slice_bounds-write_all-end : goal.slice_bounds-write_all-end
-slice_bounds-write_all-end c = let h : length c.args.line.bytes ≡ 2048 = search rules in simp length-take (omega arith)
