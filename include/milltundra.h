@@ -1,4 +1,4 @@
-/* Milltundra's C face: job tables of embroidery panels. Link with target/staticlib/libpanel.a, made by tools/face.
+/* Milltundra's C face: job tables of embroidery panels. Link with target/staticlib/libpanel.a, made by `. tools/face; face`.
    Every function answers every input. A pointer points to as many bytes as the count after it says; with a count of 0 it may be null.
    A buffer overlaps nothing else that is handed over.
    No struct has padding: what would be is a field `pad`, all zeros in an answer, so that equal answers are equal bytes, and a state can be

@@ -21,7 +21,7 @@ use Rattle.machine.specs.Ticking.{nobody, triple_of, run_list, ticked, judged, a
 use Rattle.journal.specs.Rows as R
 use Rattle.journal.specs.Judging as G
 use Rattle.journal.specs.Examples as J
-use Rattle.examples.specs.Examples.{flat, eight, same_run, answered, hold, on, goes}
+use Rattle.examples.specs.Examples.{flat, eight, same_run, answered, on, goes}
 use Rattle.examples.specs.Marks.{file_marks, file_nothing, played, journals, MarksHold}
 use Rattle.examples.proofs.Going.{bare_steps, bare_tick, is_read, bare_plays, bare_opens, bare_due, bare_holds, bare_hold, all_bare, bare_is, start_is, start_fine}
 

@@ -1,5 +1,5 @@
 -- The sharp verdict's examples, computed.
-use mathlib.Core.Path.{◌≡◌, refl}
+use mathlib.Core.Path.{refl}
 use Rattle.graph.specs.Words.{bit, sum, all, row_from, row, largest, also_if, those, those_below, lowest, any_of, is_none, join_from, in_order, first_or, lowest_or}
 use Rattle.graph.specs.Graph.{edge, led_to, sweep, sweeps, acyclic_among, acyclic, one_more, longest_from, maximum, longest}
 use Rattle.chains.specs.Chains.{first_with, listed_after, listed_from, first_chain}

@@ -1,12 +1,12 @@
 -- Both ends of the sharp margin's range (`sharp_range` of the crate sharp) are exact: each is some file's margin. The low end's file is that of the old
 -- verdict's: its sum has 240 million terms, so it is computed by the closed form.
-use mathlib.Core.Path.{◌≡◌, refl, sym, ap, ◌∙◌}
+use mathlib.Core.Path.{◌≡◌, refl, ap, ◌∙◌}
 use mathlib.Core.Bool.{true}
-use mathlib.Core.List.{List, [], ◌∷◌, ◌++◌}
-use Prim.Native.Nat.{ℕ, ◌+◌, ◌*◌, ◌-◌, ◌≤◌, ◌<◌}
+use mathlib.Core.List.{[], ◌∷◌}
+use Prim.Native.Nat.{ℕ, ◌+◌, ◌*◌, ◌-◌}
 use native.Mathlib.Omega.{arith}
-use lib.IntN.{ℤ, pos, ◌-ℤ◌}
-use Rattle.graph.specs.Words.{bit, sum, all, row_from, row, largest, also_if, those, those_below, lowest, any_of, is_none, join_from, in_order, first_or, lowest_or, pick}
+use lib.IntN.{pos, ◌-ℤ◌}
+use Rattle.graph.specs.Words.{bit, sum, all, row_from, row, largest, also_if, those, those_below, lowest, any_of, is_none, join_from, in_order, first_or, lowest_or}
 use Rattle.graph.specs.Graph.{edge, led_to, sweep, sweeps, acyclic_among, acyclic, one_more, longest_from, maximum, longest}
 use Rattle.graph.proofs.Facts.{sum_same}
 use Rattle.chains.specs.Chains.{first_with, listed_after, listed_from, first_chain}

@@ -1,5 +1,5 @@
 -- Document 02, M-103, by hand: fork and join marks that cost nothing, played by the machine and judged in a journal.
-use Rattle.std.specs.Prelude.{Bool, false, ◌&&◌, List, [], ◌∷◌, ◌++◌, ℕ, T, eqb}
+use Rattle.std.specs.Prelude.{false, ◌&&◌, List, [], ◌∷◌, ◌++◌, ℕ, T, eqb}
 use Rattle.machine.specs.States.{opening}
 use Rattle.machine.specs.Ticking.{tick}
 use Rattle.journal.specs.Examples as J

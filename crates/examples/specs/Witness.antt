@@ -37,8 +37,8 @@ some_plan = record { rel = some_releases; times = λ x. (table_of file_a).costs;
 abbrev pub available_at : ℕ → List ℕ
 available_at x = availables (table_of file_a) (mid_at stated file_a some_clock some_plan x)
 
-abbrev pub field_own : ℕ → List ℕ
-field_own x = own_choice (table_of file_a) (mid_at stated file_a some_clock some_plan x)
+abbrev pub own_at : ℕ → List ℕ
+own_at x = own_choice (table_of file_a) (mid_at stated file_a some_clock some_plan x)
 
 pub record Witness : Type 0 where
   -- what the demand asks: an accepted file, a clock, releases that are spaced, and legal choices
@@ -55,4 +55,4 @@ pub record Witness : Type 0 where
   -- in tick 0 vertex 0 of task 0, which is available, is passed over
   pub passed_over : (is_in 0 (available_at 0) ≡ true) × (is_in 0 (some_choices 0) ≡ false)
   -- in tick 6 the machine would choose task 1's vertex 0, 64; the run chooses another with as many ticks left
-  pub otherwise : (is_in 64 (field_own 6) ≡ true) × (is_in 64 (some_choices 6) ≡ false)
+  pub otherwise : (is_in 64 (own_at 6) ≡ true) × (is_in 64 (some_choices 6) ≡ false)

@@ -79,9 +79,9 @@ pub record Ticks (file : List ℕ) (st : State) (named : ℕ) (x : Ticked) : Typ
   pub allowed : tick-reads.Post lifetimes args x exit
 
 -- `tick_in_place` on a state that it is lent: a is its answer, and next is the lent state at the return. The checker reads this contract as an
--- assertion about memory, in any model of its logic: a type of resources with its algebra, and what heap, atoms, memory and routines are in it.
--- The contract allows the return where the assertion holds of some resource in some model. Which they are does not matter, so nothing is asked of
--- them: the less is asked here, the more calls the promises cover.
+-- assertion about memory, in any model of its logic: a type of resources with its algebra and the logic over it, and what memory and routines are
+-- in it. The contract allows the return where the assertion holds of some resource in some model. Which they are does not matter, so nothing more
+-- is asked of them: the less is asked here, the more calls the promises cover.
 pub record Moves (file : List ℕ) (st : State) (named : ℕ) (a : Answer) (next : State) : Type 2 where
   pub lifetimes : Lfts 2
   pub args : Args in_place.signature lifetimes

@@ -83,8 +83,8 @@ fn put_edges(buffer: &mut [u8], at: usize, succ: [u16; 16], v: usize) -> usize
 
 // A task record, whose counts are in their ranges.
 fn put_task(buffer: &mut [u8], at: usize, task: Task, costs: &[u32; 256], slot: usize) -> usize
-    requires v_bound { (task.v ≤ 16) × (length (keys_of task.v task.succ) ≤ 120) × (slot + 16 ≤ 256) }
-    requires slot_in_bounds { at + length (task_bytes task costs.now slot) ≤ length buffer.old }
+    requires in_range { (task.v ≤ 16) × (length (keys_of task.v task.succ) ≤ 120) × (slot + 16 ≤ 256) }
+    requires has_room { at + length (task_bytes task costs.now slot) ≤ length buffer.old }
     ensures { (buffer.new ≡ sets buffer.old at (task_bytes task costs.now slot)) × (result ≡ at + length (task_bytes task costs.now slot)) }
 {
     let v = task.v as usize;

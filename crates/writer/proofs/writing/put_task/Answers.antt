@@ -13,20 +13,20 @@ pub put_head-requires : goal.put_head-requires
 put_head-requires c =
     let a = c.args in
     let n = task_long a.task a.costs.now a.slot in
-    let v₂ = c.requires.v_bound.0 in
-    let e₂ = c.requires.v_bound.1 in
-    let sl = c.requires.v_bound.2 in
-    let h = c.requires.slot_in_bounds in
+    let v₂ = c.requires.in_range.0 in
+    let e₂ = c.requires.in_range.1 in
+    let sl = c.requires.in_range.2 in
+    let h = c.requires.has_room in
     omega arith
 
 pub put4-requires : goal.put4-requires
 put4-requires c =
     let a = c.args in
     let n = task_long a.task a.costs.now a.slot in
-    let v₂ = c.requires.v_bound.0 in
-    let e₂ = c.requires.v_bound.1 in
-    let sl = c.requires.v_bound.2 in
-    let h = c.requires.slot_in_bounds in
+    let v₂ = c.requires.in_range.0 in
+    let e₂ = c.requires.in_range.1 in
+    let sl = c.requires.in_range.2 in
+    let h = c.requires.has_room in
     let k0 = c.put_head.auto.buffer in
     omega arith
 
@@ -34,10 +34,10 @@ pub put4-requires-2 : goal.put4-requires-2
 put4-requires-2 c =
     let a = c.args in
     let n = task_long a.task a.costs.now a.slot in
-    let v₂ = c.requires.v_bound.0 in
-    let e₂ = c.requires.v_bound.1 in
-    let sl = c.requires.v_bound.2 in
-    let h = c.requires.slot_in_bounds in
+    let v₂ = c.requires.in_range.0 in
+    let e₂ = c.requires.in_range.1 in
+    let sl = c.requires.in_range.2 in
+    let h = c.requires.has_room in
     let k0 = c.put_head.auto.buffer in
     let k1 = c.put4.auto.buffer in
     omega arith
@@ -46,10 +46,10 @@ pub put_costs-requires : goal.put_costs-requires
 put_costs-requires c =
     let a = c.args in
     let n = task_long a.task a.costs.now a.slot in
-    let v₂ = c.requires.v_bound.0 in
-    let e₂ = c.requires.v_bound.1 in
-    let sl = c.requires.v_bound.2 in
-    let h = c.requires.slot_in_bounds in
+    let v₂ = c.requires.in_range.0 in
+    let e₂ = c.requires.in_range.1 in
+    let sl = c.requires.in_range.2 in
+    let h = c.requires.has_room in
     let k0 = c.put_head.auto.buffer in
     let k1 = c.put4.auto.buffer in
     let k2 = c.put4-2.auto.buffer in
@@ -59,10 +59,10 @@ pub put_edges-requires : goal.put_edges-requires
 put_edges-requires c =
     let a = c.args in
     let n = task_long a.task a.costs.now a.slot in
-    let v₂ = c.requires.v_bound.0 in
-    let e₂ = c.requires.v_bound.1 in
-    let sl = c.requires.v_bound.2 in
-    let h = c.requires.slot_in_bounds in
+    let v₂ = c.requires.in_range.0 in
+    let e₂ = c.requires.in_range.1 in
+    let sl = c.requires.in_range.2 in
+    let h = c.requires.has_room in
     let k0 = c.put_head.auto.buffer in
     let k1 = c.put4.auto.buffer in
     let k2 = c.put4-2.auto.buffer in
@@ -73,9 +73,9 @@ pub returns : goal.returns
 returns c =
     let a = c.args in
     let n = task_long a.task a.costs.now a.slot in
-    let e₂ = c.requires.v_bound.1 in
+    let e₂ = c.requires.in_range.1 in
     let e = c.edges_of-e in
-    let f = e.ensures ∙ sym (edges_counted a.task.v a.task.succ c.requires.v_bound.0) in
+    let f = e.ensures ∙ sym (edges_counted a.task.v a.task.succ c.requires.in_range.0) in
     let q : e.result % 256 ≡ length (keys_of a.task.v a.task.succ) = omega arith in
     let h : c.put_head.new.buffer ≡ sets a.buffer.now a.at (0x54 ∷ 0x4B ∷ a.task.v ∷ length (keys_of a.task.v a.task.succ) ∷ []) =
     c.put_head.ensures ∙ ap (λ (k : ℕ). sets a.buffer.now a.at (0x54 ∷ 0x4B ∷ a.task.v ∷ k ∷ [])) q in

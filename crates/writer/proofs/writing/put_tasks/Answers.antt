@@ -36,7 +36,7 @@ put_task-p-requires c =
     let g = l.invariant.2 in
     let m = l.invariant.1 in
     let h = c.requires.1 in
-    record { v_bound = (k.v_high, k.e_high, omega arith); slot_in_bounds = omega arith }
+    record { in_range = (k.v_high, k.e_high, omega arith); has_room = omega arith }
 
 pub loop-i-preserved : goal.loop-i-preserved
 unfolding task no_task
