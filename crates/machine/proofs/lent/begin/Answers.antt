@@ -6,7 +6,7 @@ use Rattle.machine.proofs.lent.begin.Invariants.{deadline_in}
 use Rattle.machine.proofs.lent.begin.Goals as goal
 
 pub loop-rest-init : goal.loop-rest-init
-loop-rest-init c = swept_none 0 (deadline_in c.args.clock c.args.t.tasks) _ c.args.fresh (search rules) c.requires
+loop-rest-init c = swept_none 0 (deadline_in c.args.clock c.args.t.tasks) _ c.args.fresh (search rules) (search rules)
 
 pub loop-rest-smaller : goal.loop-rest-smaller
 loop-rest-smaller c = falls _ (omega arith) c.loop-rest.invariant.narrow
@@ -16,7 +16,7 @@ unfolding no_task wrap
 loop-rest-preserved c =
     let l = c.loop-rest in
     let a = c.args in
-    swept_at 0 (deadline_in a.clock a.t.tasks) _ _ l.rest l.deadlines l.invariant (omega arith) c.first_of-s.result c.first_of-s.ensures.0 c.wrapping_add_u32.result c.wrapping_add_u32.ensures.value
+    swept_at 0 (deadline_in a.clock a.t.tasks) _ _ l.rest l.deadlines l.invariant (omega arith) c.first_of-s.result c.first_of-s.ensures.0 c.wrapping_add.result (search rules)
 
 pub returns : goal.returns
 unfolding D task

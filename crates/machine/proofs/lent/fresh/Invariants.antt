@@ -5,6 +5,3 @@ use Rattle.machine.proofs.lent.fresh.Given as goal
 
 abbrev pub invariant-loop-s : goal.invariant-loop-s
 invariant-loop-s l = (l.s ≤ 64) × (l.set ≡ set_of l.s (is_new_by l.live l.named))
-
-abbrev pub decreases-loop-s : goal.decreases-loop-s
-decreases-loop-s l = 64 - l.s

@@ -8,6 +8,3 @@ used_in live i q = flag (bit live (16 * q + i))
 
 abbrev pub invariant-loop-p : goal.invariant-loop-p
 invariant-loop-p l = (l.p ≤ 4) × (l.count ≡ sum l.p (used_in l.live l.i)) × (l.count ≤ l.p)
-
-abbrev pub decreases-loop-p : goal.decreases-loop-p
-decreases-loop-p l = 4 - l.p

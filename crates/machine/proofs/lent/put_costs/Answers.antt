@@ -5,10 +5,10 @@ use Rattle.machine.proofs.Putting.{PutAt, at_none, at_one, at_all}
 use Rattle.machine.proofs.lent.put_costs.Goals as goal
 
 pub loop-rest-init : goal.loop-rest-init
-loop-rest-init c = at_none c.args.costs.now _ c.args.fresh (search rules) c.requires
+loop-rest-init c = at_none c.args.costs.now _ c.args.fresh (search rules) (search rules)
 
 pub put_slot-requires : goal.put_slot-requires
-put_slot-requires c = (omega (arith, c.first_of-s.ensures.1), c.loop-rest.invariant.size)
+put_slot-requires c = omega (arith, c.first_of-s.ensures.1)
 
 pub loop-rest-smaller : goal.loop-rest-smaller
 loop-rest-smaller c = falls _ (omega arith) c.loop-rest.invariant.narrow

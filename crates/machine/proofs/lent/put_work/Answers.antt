@@ -4,7 +4,7 @@ use Rattle.machine.proofs.Sweeping.{falls, swept_none, swept_at, swept_all}
 use Rattle.machine.proofs.lent.put_work.Goals as goal
 
 pub loop-rest-init : goal.loop-rest-init
-loop-rest-init c = swept_none 0 (work_left c.args.remaining.now) _ c.args.fresh (search rules) c.requires
+loop-rest-init c = swept_none 0 (work_left c.args.remaining.now) _ c.args.fresh (search rules) (search rules)
 
 pub loop-rest-smaller : goal.loop-rest-smaller
 loop-rest-smaller c = falls _ (omega arith) c.loop-rest.invariant.narrow

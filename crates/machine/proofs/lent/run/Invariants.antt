@@ -15,6 +15,3 @@ places_of count keys = row count (λ j. place_in (key_in keys j))
 
 abbrev pub invariant-loop-j : goal.invariant-loop-j
 invariant-loop-j l = (l.j ≤ l.count) × Runs (places_of l.count l.keys) l.initial.remaining l.initial.work l.j l.remaining l.work
-
-abbrev pub decreases-loop-j : goal.decreases-loop-j
-decreases-loop-j l = l.count - l.j
