@@ -57,10 +57,9 @@ module _ (succ : List ℕ) where
       either false true d = refl
       either false false d = refl
 
-  pub led_more : (led rest less u : ℕ) → u ≡ lowest 16 16 (bit rest) → members rest ≡ lowest 16 16 (bit rest) ∷ members less
+  pub led_more : (led rest less u : ℕ) → members rest ≡ u ∷ members less
       → (w : ℕ) → (bit (bit_or led (get_or succ u 0)) w || led_to (edge succ) (members less) w) ≡ (bit led w || led_to (edge succ) (members rest) w)
-  led_more led rest less u e m w =
-      led_one led u (members less) w ∙ ap (λ (l : List ℕ). bit led w || led_to (edge succ) l w) (ap (λ (t : ℕ). t ∷ members less) e ∙ sym m)
+  led_more led rest less u m w = led_one led u (members less) w ∙ ap (λ (l : List ℕ). bit led w || led_to (edge succ) l w) (sym m)
 
   pub led_end : (led rest : ℕ) → rest ≡ 0 → (w : ℕ) → bit led w ≡ (bit led w || led_to (edge succ) (members rest) w)
   unfolding led_to any_of
