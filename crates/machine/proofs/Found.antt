@@ -5,19 +5,17 @@ use Rattle.graph.specs.Words.{those_below, first_or, lowest_or}
 
 module _ {X : Type 0} (n : ℕ) (p : ℕ → Bool) (f : ℕ → X) (other : X) where
   pub lowest_some : (y : ℕ) → lowest_or n p Some None ≡ Some y → lowest_or n p f other ≡ f y
-  unfolding lowest_or
+  unfolding lowest_or first_or
   lowest_some y = go (those_below n p)
     where
       go : (l : List ℕ) → first_or l Some None ≡ Some y → first_or l f other ≡ f y
-      unfolding first_or
       go [] e = absurd (none-some y e)
       go (k ∷ l) e = ap f (same_Some k y e)
 
   pub lowest_no : lowest_or n p Some None ≡ None → lowest_or n p f other ≡ other
-  unfolding lowest_or
+  unfolding lowest_or first_or
   lowest_no = go (those_below n p)
     where
       go : (l : List ℕ) → first_or l Some None ≡ None → first_or l f other ≡ other
-      unfolding first_or
       go [] e = refl
       go (k ∷ l) e = absurd (none-some k (sym e))

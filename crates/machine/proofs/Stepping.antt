@@ -44,9 +44,9 @@ module _ (t : Table) (st : State) (named : ℕ) (many : length st.tasks ≡ 16) 
 
   -- STEP 4
   pub after_run : (chosen : List ℕ) → state_after (with_run chosen mid) ≡ worked t (released t st named) named chosen
+  unfolding rows_after
   after_run chosen =
       rows_worked t st named _ _ _ _ _ _ _ _ its_rows refl its_step chosen _ _ refl (λ other e. run_same (state_after mid) other (rest_of ∙ sym e) mid.work chosen)
     where
       rest_of : (state_after mid).remaining ≡ mid.remaining
-      unfolding rows_after
       rest_of = refl

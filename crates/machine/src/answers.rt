@@ -8,6 +8,7 @@ use crate::{Answer, Chosen, Reply, State, Ticked, Triple};
 
 impl Triple {
     // An unused place of a run list.
+    #[tactic(auto, unfolding(crate::specs::Ticking::nobody))]
     fn nobody() -> Triple
         ensures { result ≡ nobody }
     {
@@ -19,6 +20,7 @@ impl Triple {
     }
 
     // The vertex that goes by `key` in a choice.
+    #[tactic(auto, unfolding(crate::specs::Ticking::triple_of, crate::specs::Steps::task_in, crate::specs::Steps::age_in, crate::specs::Steps::vertex_in))]
     fn of(key: u16) -> Triple
         requires { key < 1024 }
         ensures { result ≡ triple_of key }
@@ -48,13 +50,13 @@ impl Reply {
 fn run_list(chosen: Chosen) -> [Triple; 8]
     ensures { result ≡ run_list (listed chosen) }
 {
-    let mut ran = [Triple::nobody(); 8];
-    for j in 0..8usize {
+    std::array::from_fn(|j| {
         if j < chosen.count {
-            ran[j] = Triple::of(chosen.keys[j] % 1024);
+            Triple::of(chosen.keys[j] % 1024)
+        } else {
+            Triple::nobody()
         }
-    }
-    ran
+    })
 }
 
 impl Answer {

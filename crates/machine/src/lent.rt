@@ -6,7 +6,8 @@ ghost use Rattle.machine.specs.declared.State.{State};
 ghost use Rattle.machine.specs.Steps.{name_at, listed, run_of};
 ghost use Rattle.machine.specs.Rows.{place_in, used_by, is_new_by, begun_deadlines, begun_waits, begun_rest, begun_work};
 
-use crate::{Chosen, numbers};
+use crate::Chosen;
+use graph::set::Members;
 use table::Table;
 
 // Whether task i is named though it has to wait.
@@ -66,11 +67,8 @@ pub(crate) fn fresh(live: u64, named: u16) -> u64
 pub(crate) fn begin(t: Table, clock: u32, fresh: u64, deadlines: &mut [u32; 64])
     ensures { deadlines.new ≡ begun_deadlines t clock fresh deadlines.old }
 {
-    let mut rest = fresh;
-    while rest != 0 {
-        let s = numbers::first_of(rest);
+    for s in Members::of(fresh) {
         deadlines[s] = clock.wrapping_add(t.tasks[s % 16].d);
-        rest &= rest - 1;
     }
 }
 
@@ -100,11 +98,8 @@ fn put_slot(costs: &[u32; 256], s: usize, remaining: &mut [u32; 1024])
 pub(crate) fn put_costs(costs: &[u32; 256], fresh: u64, remaining: &mut [u32; 1024])
     ensures { remaining.new ≡ begun_rest costs.now fresh remaining.old }
 {
-    let mut rest = fresh;
-    while rest != 0 {
-        let s = numbers::first_of(rest);
+    for s in Members::of(fresh) {
         put_slot(costs, s, remaining);
-        rest &= rest - 1;
     }
 }
 
@@ -112,11 +107,8 @@ pub(crate) fn put_costs(costs: &[u32; 256], fresh: u64, remaining: &mut [u32; 10
 pub(crate) fn put_work(remaining: &[u32; 1024], fresh: u64, work: &mut [u64; 64])
     ensures { work.new ≡ row 64 (λ s. pick (bit fresh s) (work_left remaining.now s) (slice_index work.old s)) }
 {
-    let mut rest = fresh;
-    while rest != 0 {
-        let s = numbers::first_of(rest);
+    for s in Members::of(fresh) {
         work[s] = slots::work_left(remaining, s);
-        rest &= rest - 1;
     }
 }
 

@@ -1,5 +1,5 @@
 // A state taken apart for a tick: its rows, changed where they lie, step by step. Slot 16 * p + i is age place p of task i.
-ghost use Rattle.std.specs.Prelude.{◌≡◌, ◌⊎◌, ◌&&◌, ◌==◌, slice_index};
+ghost use Rattle.std.specs.Prelude.{◌≡◌, ◌+◌, ◌*◌, ◌⊎◌, ◌&&◌, ◌==◌, slice_index};
 ghost use Rattle.graph.specs.Words.{bit, Distinct, set_of};
 ghost use Rattle.machine.specs.Steps.{any_place, listed};
 ghost use Rattle.machine.specs.Rows.{taken_apart, ticks_of, begun, with_run, state_after, Tidy};
