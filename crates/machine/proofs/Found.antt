@@ -1,6 +1,7 @@
 -- What `lowest_or` gives, by whether a search finds one.
-use Rattle.std.proofs.Common.{◌≡◌, ℕ, Bool, List, [], ◌∷◌, Some, None, ap, sym, refl}
+use Rattle.std.proofs.Common.{◌≡◌, ℕ, ◌<◌, Bool, List, [], ◌∷◌, Some, None, ap, sym, refl}
 use Rattle.std.proofs.lemmas.Option.{none-some, same_Some}
+use Rattle.graph.proofs.Members.{below_same}
 use Rattle.graph.specs.Words.{those_below, first_or, lowest_or}
 
 module _ {X : Type 0} (n : ℕ) (p : ℕ → Bool) (f : ℕ → X) (other : X) where
@@ -19,3 +20,8 @@ module _ {X : Type 0} (n : ℕ) (p : ℕ → Bool) (f : ℕ → X) (other : X) w
       go : (l : List ℕ) → first_or l Some None ≡ None → first_or l f other ≡ other
       go [] e = refl
       go (k ∷ l) e = absurd (none-some k (sym e))
+
+-- it goes by what the test says below n alone
+pub lowest_same : {X : Type 0} (n : ℕ) (p q : ℕ → Bool) (f : ℕ → X) (other : X) → ((k : ℕ) → k < n → p k ≡ q k) → lowest_or n p f other ≡ lowest_or n q f other
+unfolding lowest_or
+lowest_same n p q f other h = ap (λ (l : List ℕ). first_or l f other) (below_same n p q h)

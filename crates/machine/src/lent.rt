@@ -51,13 +51,13 @@ fn is_new(live: u64, named: u16, s: usize) -> bool
 pub(crate) fn fresh(live: u64, named: u16) -> u64
     ensures { result ≡ set_of 64 (is_new_by live named) }
 {
-    let mut set: u64 = 0;
     if named == 0 {
-        return set;
+        return 0;
     }
+    let mut set = 0;
     for s in 0..64usize {
         if is_new(live, named, s) {
-            set |= 1 << s;
+            set |= 1u64 << s;
         }
     }
     set

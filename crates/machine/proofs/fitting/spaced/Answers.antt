@@ -14,4 +14,5 @@ pub returns-then-live-before-eq1 : goal.returns-then-live-before-eq1
 unfolding bit
 returns-then-live-before-eq1 c =
     let a = c.args in
-    spaced_by_lem a.live a.s a.ticks.now a.period (omega arith) (eq-eqb _ _ c.if-live-before-eq1.true)
+    rw (c.from.ensures, c.from-then-live-before-eq1.ensures, c.from-then-live-before-eq1-2.ensures)
+    (spaced_by_lem a.live a.s a.ticks.now a.period (omega arith) (eq-eqb _ _ c.if-live-before-eq1.true))

@@ -1,4 +1,4 @@
-use Rattle.std.proofs.Common.{get_or, refl, ◌∙◌, rules, tests}
+use Rattle.std.proofs.Common.{ℕ, Bool, get_or, refl, ◌∙◌, rules, tests}
 use Rattle.std.proofs.lemmas.Iterator.{YieldsList-from_range}
 use Rattle.std.proofs.lemmas.Iterator.Search.{all_from_yields_List}
 use Rattle.table.specs.Memory.{no_task}
@@ -10,5 +10,5 @@ pub returns : goal.returns
 unfolding no_task
 returns c =
     let a = c.args in
-    let fits = λ i. wait_fits a.t.now.n (get_or a.t.now.tasks i no_task).t (get_or a.waits.now i 0) i in
+    let fits : ℕ → Bool = λ i. wait_fits a.t.now.n (get_or a.t.now.tasks i no_task).t (get_or a.waits.now i 0) i in
     all_from_yields_List fits _ _ c.all.result c.all.ensures.ran (YieldsList-from_range 0 16 16 refl refl) (λ x b q k. search (rules, tests)) ∙ all_in_range fits 16

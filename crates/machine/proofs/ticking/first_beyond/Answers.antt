@@ -1,4 +1,4 @@
-use Rattle.std.proofs.Common.{◌≡◌, ℕ, Bool, true, false, ◌&&◌, leb, Some, None, sym, ap, ◌∙◌, rules, tests}
+use Rattle.std.proofs.Common.{◌≡◌, ℕ, Bool, true, false, ◌&&◌, leb, Some, None, sym, ap, ◌∙◌, rules, tests, arith}
 use Rattle.std.proofs.lemmas.Iterator.{first_from_Range}
 use Rattle.graph.specs.Words.{bit}
 use Rattle.graph.proofs.Facts.{lowest_or_none}
@@ -14,6 +14,7 @@ returns-then-named-eq0 c =
 pub returns : goal.returns
 returns c =
     let a = c.args in
-    found_is 16 (λ i. bit a.named i && leb a.n i) c.find.result
-    (first_from_Range _ _ _ _ (λ i. (bit a.named i && leb a.n i) ≡ true) (λ i. (bit a.named i && leb a.n i) ≡ false) c.find.ensures.ran
+    let beyond : ℕ → Bool = λ i. bit a.named i && leb a.n i in
+    found_is 16 16 beyond (omega arith) (λ k low b. absurd (omega arith)) c.find.result
+    (first_from_Range _ _ _ _ (λ i. beyond i ≡ true) (λ i. beyond i ≡ false) c.find.ensures.ran
     (λ x q k. search (rules, tests)) (λ x q k. search (rules, tests)))

@@ -1,4 +1,4 @@
-use Rattle.std.proofs.Common.{get_or, refl, ◌∙◌, rules, tests}
+use Rattle.std.proofs.Common.{ℕ, Bool, get_or, refl, ◌∙◌, rules, tests}
 use Rattle.std.proofs.lemmas.Iterator.{YieldsList-from_range}
 use Rattle.std.proofs.lemmas.Iterator.Search.{all_from_yields_List}
 use Rattle.graph.specs.Words.{bit}
@@ -10,5 +10,5 @@ pub returns : goal.returns
 unfolding bit
 returns c =
     let r = c.args.self.now in
-    let zero = λ s. zero_place (bit r.live s) (get_or r.work s 0) r.remaining s in
+    let zero : ℕ → Bool = λ s. zero_place (bit r.live s) (get_or r.work s 0) r.remaining s in
     all_from_yields_List zero _ _ c.all.result c.all.ensures.ran (YieldsList-from_range 0 64 64 refl refl) (λ x b q k. search (rules, tests)) ∙ all_in_range zero 64

@@ -9,8 +9,8 @@ returns-then-self-s-ne1 c = c.zero_place.ensures ∙ slot_zero _ _ _ _ _ _ _ _ _
 
 pub returns-then-s-from : goal.returns-then-s-from
 unfolding bit
-returns-then-s-from c = c.live_fits.ensures ∙ slot_live _ _ _ _ _ _ _ _ _ (eq-eqb _ _ c.if-self-s-ne1.false) (omega arith)
+returns-then-s-from c = c.live_fits.ensures ∙ slot_live _ _ _ _ _ _ _ _ _ (eq-eqb _ _ c.if-self-s-ne1.false) (omega (arith, c.from.ensures))
 
 pub returns-else-s-from : goal.returns-else-s-from
 unfolding bit
-returns-else-s-from c = ?
+returns-else-s-from c = le-ltb _ _ c.if-s-from.false ∙ slot_past _ _ _ _ _ _ _ _ _ (eq-eqb _ _ c.if-self-s-ne1.false) (omega (arith, c.from.ensures))
