@@ -66,8 +66,7 @@ pub(crate) fn tick_on(t: Table, st: State, named: u16) -> Ticked
         return Ticked::refused(st, reply);
     }
     rows.release(t, named);
-    let chosen =
-        choosing::own_choice(t, rows.clock, rows.live, &rows.deadlines, &rows.remaining);
+    let chosen = choosing::own_choice(t, rows.clock, rows.live, &rows.deadlines, &rows.remaining);
     rows.run(chosen);
     let done = rows.done();
     rows.told(chosen, done, closing::tasks_in(done))

@@ -28,7 +28,7 @@ loop-j-preserved c =
     let once : Distinct at = places_distinct (key_in ks) (key_small ks) n c.requires in
     let b : l.j < length at = omega (arith, size) in
     elim c.if-remaining-k-ne0.branch [
-      | then-remaining-k-ne0 w ↦ rw (w.remaining-is, w.work-is) (runs_one at rest c.args.work.now l.j l.remaining l.work l.invariant once x.result b here x.ensures.1 _ _ (omega (arith, w.if-remaining-k-ne0.true)) refl ?)
+      | then-remaining-k-ne0 w ↦ rw (w.remaining-is, w.work-is) (runs_one at rest c.args.work.now l.j l.remaining l.work l.invariant once x.result b here x.ensures.1 _ _ (omega (arith, w.if-remaining-k-ne0.true)) refl w.saturating_sub.ensures)
       | else-remaining-k-ne0 w ↦ rw (w.remaining-is, w.work-is) (runs_skip at rest c.args.work.now l.j l.remaining l.work l.invariant once x.result b here x.ensures.1 (omega (arith, w.if-remaining-k-ne0.false)))
     ]
 

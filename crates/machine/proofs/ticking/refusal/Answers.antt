@@ -27,7 +27,16 @@ returns-in-Some c =
     ∙ ap (λ (f : Bool). refusal_of f r.phase c.args.named n r.waits) c.fits.ensures
 
 pub returns-in-Some-first_early : goal.returns-in-Some-first_early
-returns-in-Some-first_early c = ?
+returns-in-Some-first_early c =
+    let n = c.args.t.now.n in
+    let r = c.args.rows.now in
+    ap (λ (x : Reply). Err x) c.of-in-Some-first_early.ensures
+    ∙ no_33 c.fits.result r.phase c.args.named n r.waits c.if-not-fits.false c.in-Running.is c.in_default-first_beyond.ensures c.in-Some-first_early.task c.in-Some-first_early.ensures
+    ∙ ap (λ (f : Bool). refusal_of f r.phase c.args.named n r.waits) c.fits.ensures
 
 pub returns : goal.returns
-returns c = ?
+returns c =
+    let n = c.args.t.now.n in
+    let r = c.args.rows.now in
+    no_none c.fits.result r.phase c.args.named n r.waits c.if-not-fits.false c.in-Running.is c.in_default-first_beyond.ensures c.in_default-first_early.ensures
+    ∙ ap (λ (f : Bool). refusal_of f r.phase c.args.named n r.waits) c.fits.ensures

@@ -21,8 +21,9 @@ pub returns-in-Err : goal.returns-in-Err
 returns-in-Err c =
     let a = c.args in
     let many : length a.st.tasks ≡ 16 = search (length_mapped, rules) in
-    c.refused.ensures ∙ (refused a.t c.requires a.st _ _ _ (its_rows a.t a.st a.named many) own_choice a.named _
-    (c.in-Err.ensures ∙ ap (λ (r : Rows). refusal_of (rows_fit a.t r) r.phase a.named a.t.n r.waits) c.of-rows.ensures)).1 c.in-Err.reply ?
+    let its_refusal = refused a.t c.requires a.st _ _ _ (its_rows a.t a.st a.named many) own_choice a.named c.refusal.result
+    (c.refusal.ensures ∙ ap (λ (r : Rows). refusal_of (rows_fit a.t r) r.phase a.named a.t.n r.waits) c.of-rows.ensures) in
+    c.refused.ensures ∙ its_refusal.1 c.in-Err.reply c.in-Err.is
 
 pub run-requires : goal.run-requires
 run-requires c =
@@ -30,15 +31,44 @@ run-requires c =
     let many : length a.st.tasks ≡ 16 = search (length_mapped, rules) in
     let mid : c.release.new.self ≡ begun a.t a.named (taken_apart a.st) = c.release.ensures ∙ ap (begun a.t a.named) c.of-rows.ensures in
     let its_choice = c.own_choice-chosen.ensures (released a.t a.st a.named)
-        (released_clock a.t a.st a.named ∙ sym (ap (λ (r : Rows). r.clock) mid))
-        (mid_remaining a.t a.st a.named many ∙ sym (ap (λ (r : Rows). r.remaining) mid))
-        (λ i p b h. ap (λ (r : Rows). bit r.live (16 * p + i)) mid ∙ mid_lives a.t a.st a.named many i p b h)
-        (λ i p b h e. ap (λ (r : Rows). get_or r.deadlines (16 * p + i) 0) mid ∙ mid_deadlines a.t a.st a.named many i p b h e) in
+    (released_clock a.t a.st a.named ∙ sym (ap (λ (r : Rows). r.clock) mid))
+    (mid_remaining a.t a.st a.named many ∙ sym (ap (λ (r : Rows). r.remaining) mid))
+    (λ i p b h. ap (λ (r : Rows). bit r.live (16 * p + i)) mid ∙ mid_lives a.t a.st a.named many i p b h)
+    (λ i p b h e. ap (λ (r : Rows). get_or r.deadlines (16 * p + i) 0) mid ∙ mid_deadlines a.t a.st a.named many i p b h e) in
     subst Distinct (sym its_choice) (own_legal _ _).distinct
 
 pub told-requires-clause-closed : goal.told-requires-clause-closed
-told-requires-clause-closed c = ?
+told-requires-clause-closed c =
+    let a = c.args in
+    let many : length a.st.tasks ≡ 16 = search (length_mapped, rules) in
+    let its_refusal = refused a.t c.requires a.st _ _ _ (its_rows a.t a.st a.named many) own_choice a.named c.refusal.result
+    (c.refusal.ensures ∙ ap (λ (r : Rows). refusal_of (rows_fit a.t r) r.phase a.named a.t.n r.waits) c.of-rows.ensures) in
+    let mid : c.release.new.self ≡ begun a.t a.named (taken_apart a.st) = c.release.ensures ∙ ap (begun a.t a.named) c.of-rows.ensures in
+    let chosen = listed c.own_choice-chosen.result in
+    let after : c.run.new.self ≡ with_run chosen (begun a.t a.named (taken_apart a.st)) = c.run.ensures ∙ ap (with_run chosen) mid in
+    let ran = ran_rows a.t a.st a.named many chosen in
+    inr (
+      c.tasks_in.ensures,
+      subst (λ (r : Rows). Tidy r.live r.remaining r.work) (sym after)
+          (tidy own_choice a.t c.requires a.st a.named (its_refusal.0 c.in_default.is) _ _ _ _ (mid_lives a.t a.st a.named many) ran.0 ran.1),
+    )
 
 pub returns : goal.returns
 unfolding advance
-returns c = ?
+returns c =
+    let a = c.args in
+    let many : length a.st.tasks ≡ 16 = search (length_mapped, rules) in
+    let its_refusal = refused a.t c.requires a.st _ _ _ (its_rows a.t a.st a.named many) own_choice a.named c.refusal.result
+    (c.refusal.ensures ∙ ap (λ (r : Rows). refusal_of (rows_fit a.t r) r.phase a.named a.t.n r.waits) c.of-rows.ensures) in
+    let mid : c.release.new.self ≡ begun a.t a.named (taken_apart a.st) = c.release.ensures ∙ ap (begun a.t a.named) c.of-rows.ensures in
+    let its_choice = c.own_choice-chosen.ensures (released a.t a.st a.named)
+    (released_clock a.t a.st a.named ∙ sym (ap (λ (r : Rows). r.clock) mid))
+    (mid_remaining a.t a.st a.named many ∙ sym (ap (λ (r : Rows). r.remaining) mid))
+    (λ i p b h. ap (λ (r : Rows). bit r.live (16 * p + i)) mid ∙ mid_lives a.t a.st a.named many i p b h)
+    (λ i p b h e. ap (λ (r : Rows). get_or r.deadlines (16 * p + i) 0) mid ∙ mid_deadlines a.t a.st a.named many i p b h e) in
+    let chosen = listed c.own_choice-chosen.result in
+    let after : c.run.new.self ≡ with_run chosen (begun a.t a.named (taken_apart a.st)) = c.run.ensures ∙ ap (with_run chosen) mid in
+    c.told.ensures
+    ∙ ap (advance_to chosen) (ap state_after after ∙ after_run a.t a.st a.named many chosen)
+    ∙ ap (advance a.t a.st a.named) its_choice
+    ∙ sym (admitted_advances own_choice a.t a.st a.named (its_refusal.0 c.in_default.is))

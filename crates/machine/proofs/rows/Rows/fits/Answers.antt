@@ -1,5 +1,5 @@
 use Rattle.machine.proofs.Judging.{running_waits, running_slots, stopped_past, stopped_waits, stopped_slots}
-use Rattle.std.proofs.Common.{sym, ◌∙◌, arith}
+use Rattle.std.proofs.Common.{sym, ◌∙◌, le-ltb}
 use Rattle.graph.proofs.Facts.{clash}
 use Rattle.table.specs.Memory.{task}
 use Rattle.machine.proofs.rows.Rows.fits.Goals as goal
@@ -16,7 +16,7 @@ returns-else-waits_fit c = c.if-waits_fit.false ∙ running_waits _ _ _ _ _ _ _ 
 pub returns-then-no_waits : goal.returns-then-no_waits
 returns-then-no_waits c = elim c.if-at-t.branch [
   | then-at-t w ↦ c.all_zero.ensures ∙ stopped_slots _ _ _ _ _ _ _ _ _ c.in-Stopped.is w.if-at-t.true (sym w.no_waits.ensures ∙ sym w.value-is ∙ c.if-no_waits.true)
-  | else-at-t w ↦ absurd (clash c.if-no_waits.true (w.value-is ∙ ?))
+  | else-at-t w ↦ absurd (clash c.if-no_waits.true (w.value-is ∙ le-ltb _ _ w.if-at-t.false))
 ]
 
 pub returns-else-no_waits : goal.returns-else-no_waits
