@@ -1,6 +1,6 @@
 -- WHAT A REFUSAL TELLS: the refusals of a tick one after the other, as the code tells them by rows; where there is none the tick is admitted, and any
 -- is the tick's. Each test by rows is the one of specs/Ticking.antt, so the first that fails by rows is the first that fails there.
-use Rattle.std.proofs.Common.{◌≡◌, ℕ, ◌<◌, ◌≤◌, Some, None, Result, Ok, Err, Bool, true, false, ◌&&◌, ltb, leb, List, get_or, sym, refl, ap, ◌∙◌, ⊎_elim, arith}
+use Rattle.std.proofs.Common.{◌≡◌, ℕ, ◌<◌, Some, None, Result, Ok, Err, Bool, true, false, ◌&&◌, ltb, leb, List, get_or, sym, refl, ap, ◌∙◌, ⊎_elim, arith}
 use Rattle.graph.specs.Words.{pick, bit, lowest_or}
 use Rattle.table.specs.declared.Table.{Table}
 use Rattle.table.specs.Good.{GoodTable}

@@ -1,7 +1,7 @@
 -- Each place by itself: a vertex of the list, or none.
-use Rattle.std.proofs.Common.{◌≡◌, ℕ, ◌%◌, ◌<◌, ◌≤◌, Bool, min, ltb, List, length, get_or, sym, ap, ap₂, ◌∙◌, rules, tests, arith, lt-ltb, le-ltb}
+use Rattle.std.proofs.Common.{◌≡◌, ℕ, ◌%◌, ◌<◌, ◌≤◌, Bool, min, ltb, length, get_or, sym, ap, ap₂, ◌∙◌, rules, tests, arith, lt-ltb, le-ltb}
 use native.Mathlib.Decide.{dec_lt}
-use Rattle.graph.specs.Words.{pick, row}
+use Rattle.graph.specs.Words.{pick}
 use Rattle.graph.proofs.Facts.{length_row, row_at}
 use Rattle.machine.specs.declared.Triple.{Triple}
 use Rattle.machine.specs.declared.Chosen.{Chosen}

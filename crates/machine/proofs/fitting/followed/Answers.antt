@@ -1,5 +1,5 @@
 use Rattle.machine.proofs.Judging.{followed_past, followed_in}
-use Rattle.std.proofs.Common.{arith, le-ltb, sym, ◌∙◌}
+use Rattle.std.proofs.Common.{arith, le-ltb, ◌∙◌}
 use Rattle.graph.specs.Words.{bit}
 use Rattle.machine.proofs.fitting.followed.Goals as goal
 

@@ -1,5 +1,5 @@
 -- Past the sixteenth no number is named.
-use Rattle.std.proofs.Common.{◌≡◌, ℕ, Bool, true, false, ◌&&◌, ltb, get_or, ap, ◌∙◌, rules, tests, arith}
+use Rattle.std.proofs.Common.{◌≡◌, ℕ, Bool, true, false, ◌&&◌, ltb, get_or, ap, rules, tests, arith}
 use Rattle.std.proofs.lemmas.Iterator.{first_from_Range}
 use Rattle.graph.specs.Words.{bit}
 use Rattle.graph.proofs.Bits.{bit_past}

@@ -1,5 +1,5 @@
 -- The loop's invariant: how many of the places that were passed are in use.
-use Rattle.std.proofs.Common.{◌≡◌, ℕ, ◌+◌, ◌-◌, ◌*◌, ◌≤◌}
+use Rattle.std.proofs.Common.{◌≡◌, ℕ, ◌+◌, ◌*◌, ◌≤◌}
 use Rattle.graph.specs.Words.{flag, bit, sum}
 use Rattle.machine.proofs.lent.places_used.Given as goal
 

@@ -1,4 +1,4 @@
-use Rattle.std.proofs.Common.{◌-◌, ◌≤◌}
+use Rattle.std.proofs.Common.{◌≤◌}
 use Rattle.machine.proofs.Putting.{PutTo}
 use Rattle.machine.proofs.lent.put_slot.Given as goal
 

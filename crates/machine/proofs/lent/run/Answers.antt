@@ -1,5 +1,5 @@
-use Rattle.std.proofs.Common.{◌≡◌, ℕ, ◌%◌, ◌<◌, min, List, length, get_or, sym, refl, ap, ◌∙◌, arith, rules}
-use Rattle.graph.specs.Words.{row, Distinct}
+use Rattle.std.proofs.Common.{◌≡◌, ℕ, ◌<◌, min, List, length, get_or, sym, refl, ap, ◌∙◌, arith, rules}
+use Rattle.graph.specs.Words.{Distinct}
 use Rattle.graph.proofs.Facts.{length_row, row_at}
 use Rattle.machine.specs.Rows.{place_in}
 use Rattle.machine.proofs.Taken.{runs_none, runs_one, runs_skip, runs_all}

@@ -1,4 +1,4 @@
-use Rattle.std.proofs.Common.{ℕ, ◌-◌, ◌≤◌, List, get_or}
+use Rattle.std.proofs.Common.{ℕ, ◌≤◌, List, get_or}
 use Rattle.graph.specs.Words.{pick, bit}
 use Rattle.table.specs.declared.Task.{Task}
 use Rattle.table.specs.Memory.{no_task}

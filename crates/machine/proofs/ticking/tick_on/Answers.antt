@@ -1,9 +1,7 @@
 -- What each call told of the rows, one after the other; then the tick is put together. Once the tick is admitted the rows are tidy after step 4, so only the
 -- tasks of which a job ended have a gap to close.
-use Rattle.std.proofs.Common.{◌≡◌, ℕ, ◌+◌, ◌*◌, ◌<◌, Bool, true, List, length, get_or, inr, sym, ap, ◌∙◌, subst, rules}
+use Rattle.std.proofs.Common.{◌≡◌, ◌+◌, ◌*◌, length, get_or, inr, sym, ap, ◌∙◌, subst, rules}
 use Rattle.graph.specs.Words.{bit, Distinct}
-use Rattle.table.specs.Good.{GoodTable}
-use Rattle.machine.specs.declared.Phase.{Phase}
 use Rattle.machine.specs.declared.rows.Rows.{Rows}
 use Rattle.machine.specs.Steps.{released, own_choice, listed}
 use Rattle.machine.specs.Rows.{taken_apart, rows_fit, begun, state_after, with_run, refusal_of, Tidy}

@@ -1,4 +1,4 @@
-use Rattle.std.proofs.Common.{eqb, refl, ◌∙◌, rules, tests}
+use Rattle.std.proofs.Common.{eqb, ◌∙◌, rules, tests}
 use Rattle.std.proofs.lemmas.Iterator.{YieldsList-from_slice}
 use Rattle.std.proofs.lemmas.Iterator.Search.{all_from_yields_List}
 use Rattle.machine.proofs.Chains.{all_entries}
