@@ -1,6 +1,8 @@
 -- What `lowest_or` gives, by whether a search finds one.
-use Rattle.std.proofs.Common.{◌≡◌, ℕ, ◌<◌, Bool, List, [], ◌∷◌, Some, None, ap, sym, refl}
+use Rattle.std.proofs.Common.{◌≡◌, ℕ, ◌<◌, Bool, true, false, List, [], ◌∷◌, Option, Some, None, ap, sym, refl}
 use Rattle.std.proofs.lemmas.Option.{none-some, same_Some}
+use Rattle.std.specs.Prelude.{is_some}
+use Rattle.graph.proofs.Facts.{clash}
 use Rattle.graph.proofs.Members.{below_same}
 use Rattle.graph.specs.Words.{those_below, first_or, lowest_or}
 
@@ -25,3 +27,12 @@ module _ {X : Type 0} (n : ℕ) (p : ℕ → Bool) (f : ℕ → X) (other : X) w
 pub lowest_same : {X : Type 0} (n : ℕ) (p q : ℕ → Bool) (f : ℕ → X) (other : X) → ((k : ℕ) → k < n → p k ≡ q k) → lowest_or n p f other ≡ lowest_or n q f other
 unfolding lowest_or
 lowest_same n p q f other h = ap (λ (l : List ℕ). first_or l f other) (below_same n p q h)
+
+-- whether there is one
+pub some_of : (r : Option ℕ) → is_some r ≡ true → (y : ℕ) × (r ≡ Some y)
+some_of (Some y) h = (y, refl)
+some_of None h = absurd (clash h refl)
+
+pub none_of : (r : Option ℕ) → is_some r ≡ false → r ≡ None
+none_of None h = refl
+none_of (Some y) h = absurd (clash refl h)
