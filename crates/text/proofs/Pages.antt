@@ -52,10 +52,11 @@ module _ {n : ℕ} where
   one_more k f x y = same (then x y) (one_more_lem k f)
 
 -- ---- what began blank
-pub written_by : {n : ℕ} {p : Page n} {l : List ℕ} → Adds (blank n) p l → length l ≤ n → p ≡ written n l
+pub written_by : {n : ℕ} {a b : Page n} {l : List ℕ} → a ≡ blank n → Adds a b l → length l ≤ n → b ≡ written n l
 unfolding blank written
-written_by {n} {p} {l} x h =
-    ap₂ (λ (b : List ℕ) (k : ℕ). record { bytes = b; len = k }) (x.bytes ∙ zeros_behind n l h) (omega (arith, x.len, length-replicate {A = ℕ} n 0))
+written_by {n} {a} {b} {l} e y h =
+    let x : Adds (blank n) b l = subst (λ (p : Page n). Adds p b l) e y in
+    ap₂ (λ (z : List ℕ) (k : ℕ). record { bytes = z; len = k }) (x.bytes ∙ zeros_behind n l h) (omega (arith, x.len, length-replicate {A = ℕ} n 0))
 
 module _ {n : ℕ} (l : List ℕ) (most : length l ≤ n) (p : Page n) (h : p ≡ written n l) where
   pub written_len : p.len ≡ length l
