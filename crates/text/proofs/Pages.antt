@@ -40,6 +40,12 @@ module _ {n : ℕ} where
   pub same : {a b : Page n} {l m : List ℕ} → Adds a b l → l ≡ m → Adds a b m
   same {a} {b} x e = subst (λ (z : List ℕ). Adds a b z) e x
 
+  -- on a page that is full nothing more shows
+  pub still : {a b c : Page n} {l m : List ℕ} → Adds a b l → Adds b c m → length a.bytes ≤ a.len → Adds a c l
+  still {a} {b} {c} {l} {m} x y h =
+      let full : length b.bytes ≤ b.len = omega (arith, x.len, ap length x.bytes, length_laid a.bytes a.len l) in
+      record { bytes = y.bytes ∙ laid_outside b.bytes b.len m full ∙ x.bytes; len = omega (arith, x.len, y.len) }
+
   -- nothing yet
   pub nothing : (p : Page n) → Adds p p []
   nothing p = record { bytes = sym (laid_none p.bytes p.len); len = omega arith }
