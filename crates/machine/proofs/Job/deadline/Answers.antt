@@ -1,6 +1,6 @@
 use Rattle.std.proofs.Common.{sym, ap}
 use Rattle.machine.specs.States.{deadline_of}
-use Rattle.machine.proofs.held.deadline_of.Goals as goal
+use Rattle.machine.proofs.Job.deadline.Goals as goal
 
 pub returns-in-Nothing : goal.returns-in-Nothing
 unfolding deadline_of
