@@ -1,7 +1,7 @@
 -- A line from its parts: what reading gave, zeros behind the text.
 use mathlib.Core.Path.{◌≡◌}
 use mathlib.Core.List.{List}
-use Prim.Native.Nat.{ℕ, ◌^◌, ◌≤◌, ◌<◌}
+use Prim.Native.Nat.{ℕ, ◌≤◌}
 use native.Mathlib.Omega.{arith}
 use lib.ListN.{length, take}
 use Rattle.text.specs.declared.page.Page.{Page}
@@ -11,9 +11,8 @@ use Rattle.table.specs.declared.Outcome.TheVariants.{Read}
 use Rattle.table.specs.declared.Loaded.{Loaded}
 use Rattle.table.specs.Reading.{read}
 use Rattle.table.proofs.PartLaws.{told_other, not_read}
-use Rattle.machine.specs.declared.Answer.{Answer}
-use Rattle.lines.specs.Lines.{refuse_line, opened_line, open_line_read, open_line, tick_line, line_of}
-use Rattle.lines.proofs.Length.{TypedAnswer, open_most, tick_most}
+use Rattle.lines.specs.Lines.{refuse_line, opened_line, open_line_read, open_line, line_of}
+use Rattle.lines.proofs.Length.{open_most}
 
 -- ---- on what reading gave
 module _ (s : List ℕ) (clock : ℕ) (l : Loaded) (h : l ≡ read s) {a b : Page 2048} where
@@ -33,8 +32,8 @@ module _ {a b : Page 2048} (e : a ≡ blank 2048) where
   unfolding line_of
   line_put x h = written_by e x h
 
-  pub open_put : {s : List ℕ} {clock : ℕ} → Adds a b (open_line s clock) → b ≡ line_of (open_line s clock)
-  open_put {s} {clock} x = line_put x (omega (arith, open_most s clock))
+  pub open_put : (s : List ℕ) (clock : ℕ) → Adds a b (open_line s clock) → b ≡ line_of (open_line s clock)
+  open_put s clock x = line_put x (omega (arith, open_most s clock))
 
 -- ---- a line in memory: its first bytes are the text
 module _ (l : List ℕ) (most : length l ≤ 2048) (r : Page 2048) (h : r ≡ line_of l) where

@@ -9,7 +9,7 @@ use lib.Dec.{eqb, ltb}
 use lib.ListN.{length, get_or, take}
 use lib.Seq.{take-suc, take_all}
 use borrow.Author.Tests.{eq-eqb, ne_eqb, ltb-true, ltb-false}
-use Rattle.graph.specs.Words.{pick, bit, in_order}
+use Rattle.graph.specs.Words.{pick, bit}
 use Rattle.text.specs.Text.{text, decimal}
 use Rattle.text.specs.declared.page.Page.{Page}
 use Rattle.text.specs.Page.{Adds}
@@ -26,14 +26,15 @@ said n k x y e = rw (eq-eqb n k e)
 pub said_not : (n k : ℕ) (x y : List ℕ) → (n ≡ k → ⊥) → y ≡ pick (eqb n k) x y
 said_not n k x y e = rw (ne_eqb n k e)
 
--- a slot is in a set, or is not
-pub in_set_lem : (set c slot : ℕ) (l : List ℕ) → slot ≡ slot_in c → set / 2 ^ slot % 2 ≡ 1 → l ≡ pick (bit set (slot_in c)) l []
-unfolding bit
-in_set_lem set c slot l e h = said (set / 2 ^ slot % 2) 1 l [] h ∙ ap (λ (k : ℕ). pick (bit set k) l []) e
+-- ---- a job whose slot is in the set of those that are live, or is not
+module _ (live : ℕ) (work : List ℕ) (c slot : ℕ) (e : slot ≡ slot_in c) where
+  pub work_shown : live / 2 ^ slot % 2 ≡ 1 → text " " ++ decimal (c / 4) ++ ((text "." ++ decimal (c % 4)) ++ (text ":" ++ decimal (get_or work slot 0))) ≡ work_in live work c
+  unfolding work_in bit
+  work_shown h = rw (← e, eq-eqb (live / 2 ^ slot % 2) 1 h) (simp append_assoc)
 
-pub not_in_set : (set c slot : ℕ) (l : List ℕ) → slot ≡ slot_in c → (set / 2 ^ slot % 2 ≡ 1 → ⊥) → [] ≡ pick (bit set (slot_in c)) l []
-unfolding bit
-not_in_set set c slot l e h = said_not (set / 2 ^ slot % 2) 1 l [] h ∙ ap (λ (k : ℕ). pick (bit set k) l []) e
+  pub work_hidden : (live / 2 ^ slot % 2 ≡ 1 → ⊥) → [] ≡ work_in live work c
+  unfolding work_in bit
+  work_hidden h = rw (← e, ne_eqb (live / 2 ^ slot % 2) 1 h)
 
 -- ---- a vertex, a refusal, an answer, by what is tested of them
 pub vertex_none : (p : Triple) → p.task ≡ 255 → [] ≡ vertex_text p
@@ -68,12 +69,12 @@ module _ (a : Answer) (live : ℕ) (work : List ℕ) where
   answer_refused e f = rw (ne_eqb a.reply.number 0 e, ne_eqb a.reply.number 34 f)
 
 -- ---- a dash where nothing was put: one is put too where the page was full before, and is cut off
-pub dashed : {n : ℕ} {a b c : Page n} {l : List ℕ} → Adds a b l → Adds b c (pick (eqb b.len a.len) (text " -") []) → Adds a c (or_dash l)
+pub dashed : {n : ℕ} {a b c : Page n} (l : List ℕ) → Adds a b l → Adds b c (pick (eqb b.len a.len) (text " -") []) → Adds a c (or_dash l)
 unfolding or_dash
-dashed {n} {a} {b} {c} {[]} x y =
+dashed {n} {a} {b} {c} [] x y =
     let q : b.len ≡ a.len = omega (arith, x.len) in
     same (then x y) (rw (eq-eqb b.len a.len q))
-dashed {n} {a} {b} {c} {d ∷ l} x y = go (ltb a.len (length a.bytes)) refl
+dashed {n} {a} {b} {c} (d ∷ l) x y = go (ltb a.len (length a.bytes)) refl
   where
     go : (t : Bool) → ltb a.len (length a.bytes) ≡ t → Adds a c (d ∷ l)
     go true e =

@@ -1,6 +1,7 @@
 // The judge's line: what a ruling says.
-ghost use Rattle.std.specs.Prelude.{◌≡◌, ◌++◌};
-ghost use Rattle.text.specs.Text.{newline, decimal};
+ghost use Rattle.std.specs.Prelude.{◌≡◌, [], ◌++◌};
+ghost use Rattle.graph.specs.Words.{pick};
+ghost use Rattle.text.specs.Text.{text, newline, decimal};
 ghost use Rattle.text.specs.Page.{Adds};
 ghost use Rattle.lines.specs.Lines.{line_of};
 ghost use Rattle.lines.specs.Rulings.{legal_line, ruling_line};
@@ -9,13 +10,22 @@ use crate::Line;
 use journal::Ruling;
 use text::Page;
 
+// Whether the last row missed.
+fn missed(page: &mut Line, last: bool)
+    ensures { Adds page.old page.new (pick last (text ", the last missed") []) }
+{
+    if last {
+        page.words(b", the last missed");
+    }
+}
+
 // A journal whose rows are all legal.
 fn legal_line(page: &mut Line, r: Ruling)
     ensures { Adds page.old page.new (legal_line r) }
 {
     page.labelled(b"legal ", r.rows as u64);
     page.words(b" rows");
-    page.words(if r.missed { b", the last missed" } else { b"" });
+    missed(page, r.missed);
     page.end_line();
 }
 

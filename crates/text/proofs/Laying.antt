@@ -7,7 +7,7 @@ use native.Mathlib.Omega.{arith}
 use native.Mathlib.Nat.{sub-zero}
 use lib.Dec.{ltb}
 use lib.ListN.{length, get_or, take, drop, length-append, length-take, length-drop, get_or-append}
-use lib.Seq.{ext_get_or, get_or-append-add, get_or-take, get_or-drop, take-append_seam}
+use lib.Seq.{ext_get_or, get_or-append-add, get_or-take, get_or-drop}
 use borrow.Author.Tests.{ltb-true, ltb-false, lt-ltb, le-ltb, le-leb, lt-leb}
 use Rattle.std.proofs.lemmas.List.{get_or_append_left, get_or-append_right}
 use Rattle.graph.specs.Words.{pick}
@@ -181,6 +181,3 @@ laid_front buf l o = same_bytes buf (laid buf 0 l) (l ++ drop (length l) buf) (l
         let e : length l + (k - length l) ≡ k = omega arith in
         laid_after buf 0 l k h i ∙ sym (ap (λ (p : ℕ). get_or buf p 0) e) ∙ sym (get_or-drop (length l) buf (k - length l) 0)
         ∙ sym (get_or-append-add l (drop (length l) buf) (k - length l) 0) ∙ ap (λ (p : ℕ). get_or (l ++ drop (length l) buf) p 0) e
-
-pub laid_taken : (buf l : List ℕ) → length l ≤ length buf → take (length l) (laid buf 0 l) ≡ l
-laid_taken buf l o = ap (take (length l)) (laid_front buf l o) ∙ take-append_seam l (drop (length l) buf)

@@ -29,6 +29,10 @@ laid_on buf at l m = go (ltb (at + length l) (length buf)) refl
         laid_outside (laid buf at l) _ m (omega (arith, length_laid buf at l)) ∙ ap (laid buf at) (sym (take-append_seam l m)) ∙ laid_cut buf at (length l) (l ++ m) (omega arith)
 
 module _ {n : ℕ} where
+  -- bytes laid, and the text longer by as many
+  pub grown : {a b : Page n} {l mid : List ℕ} {k : ℕ} → mid ≡ laid a.bytes a.len l → k ≡ length l → b.bytes ≡ mid → b.len ≡ a.len + min k (length mid - a.len) → Adds a b l
+  grown {a} {l = l} e f x y = record { bytes = x ∙ e; len = omega (arith, f, y, ap length e, length_laid a.bytes a.len l) }
+
   -- one text, and another behind it
   pub then : {a b c : Page n} {l m : List ℕ} → Adds a b l → Adds b c m → Adds a c (l ++ m)
   then {a} {b} {c} {l} {m} x y = record {
