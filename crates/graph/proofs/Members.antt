@@ -4,10 +4,11 @@ use mathlib.Core.Bool.{Bool, true, false, not, ◌&&◌}
 use mathlib.Core.List.{List, [], ◌∷◌}
 use Prim.Native.Nat.{ℕ, zero, suc, ◌+◌, ◌^◌, ◌-◌, ◌≤◌, ◌<◌}
 use native.Mathlib.Omega.{arith}
+use native.Mathlib.Nat.{mod-eq_of_lt}
 use native.Mathlib.Decide.{ℕ_discrete, dec_lt}
 use lib.ListN.{length}
 use lib.Dec.{eqb}
-use lib.Bits.{bit_and}
+use lib.Bits.{bit_and, and_le_r, and_comm, and_mask}
 use lib.Count.{count_trailing_zeros}
 use borrow.Author.Tests.{eq-eqb, ne_eqb}
 use Rattle.graph.specs.Words.{bit, row_from, row, also_if, those, those_below, members, lowest, is_in, is_none}
@@ -92,6 +93,10 @@ pub members_full : members 65535 ≡ row 16 (λ i. i)
 unfolding members those_below those also_if row row_from bit
 members_full = refl
 
+-- and the set of all sixteen leaves out none of another
+pub full_and : (x : ℕ) → x < 2 ^ 16 → bit_and 65535 x ≡ x
+full_and x h = and_comm 65535 x ∙ and_mask x 16 ∙ mod-eq_of_lt h
+
 pub members_zero : members 0 ≡ []
 unfolding members those_below those also_if row row_from bit
 members_zero = refl
@@ -115,6 +120,29 @@ members_first x p h =
     let l = B.lowest 16 x p h in
     rw (← first_is x h)
     (below_first (bit x) (bit (bit_and x (x - 1))) (count_trailing_zeros 16 x) l.here l.below 16 (B.lowest_lt 16 x p h) (λ k c. B.lowest_less 16 x p h k))
+
+-- a number of sixteen bits holds numbers below 16
+pub held_below : (x k : ℕ) → x < 2 ^ 16 → bit x k ≡ true → k < 16
+held_below x k h e = elim (dec_lt k 16) [ yes l ↦ l | no l ↦ absurd (clash e (B.bit_past x 16 k h (omega arith))) ]
+
+-- a step over a set of sixteen bits, as `Members` takes it: u comes, and y is what is left of x
+pub record Took (x u y : ℕ) : Type 0 where
+  pub below : u < 16
+  pub listed : members x ≡ u ∷ members y
+  pub small : y < 2 ^ 16
+
+pub took : {x u y : ℕ} → (0 < x) × (u ≡ count_trailing_zeros 64 x) × (u < 64) × (y ≡ bit_and x (x - 1)) → x < 2 ^ 16 → Took x u y
+unfolding members
+took {x} {u} {y} s h =
+    let l = B.lowest 64 x s.0 (omega arith) in
+    let b : count_trailing_zeros 64 x < 16 = held_below x (count_trailing_zeros 64 x) h l.here in
+    record {
+      below = omega (arith, b, s.1);
+      listed = rw (s.1, s.3)
+          (below_first (bit x) (bit (bit_and x (x - 1))) (count_trailing_zeros 64 x) l.here l.below 16 b
+          (λ k c. B.lowest_less 64 x s.0 (omega arith) k));
+      small = omega (arith, and_le_r x (x - 1), s.3);
+    }
 
 pub members_none : (x : ℕ) → x < 2 ^ 16 → is_none (members x) ≡ eqb x 0
 unfolding is_none
@@ -156,10 +184,6 @@ in_members x k b = go (bit x k) refl
     go : (d : Bool) → bit x k ≡ d → is_in k (those_below 16 (bit x)) ≡ d
     go true e = below_all 16 (bit x) k b e
     go false e = off_when _ (λ i. clash (below_pass 16 (bit x) k i).1 e)
-
--- a number of sixteen bits holds numbers below 16
-pub held_below : (x k : ℕ) → x < 2 ^ 16 → bit x k ≡ true → k < 16
-held_below x k h e = elim (dec_lt k 16) [ yes l ↦ l | no l ↦ absurd (clash e (B.bit_past x 16 k h (omega arith))) ]
 
 pub held_in : (x k : ℕ) → x < 2 ^ 16 → bit x k ≡ true → is_in k (members x) ≡ true
 held_in x k h e = in_members x k (held_below x k h e) ∙ e
