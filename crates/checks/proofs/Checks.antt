@@ -53,6 +53,15 @@ edge_bad p e = let z : ◌≡◌ {A = ℕ} 0 1 = cc in omega arith
 pub cycle_bad : (p : ℕ) → Cycle p ≡ Read → ⊥
 cycle_bad p e = let z : ◌≡◌ {A = ℕ} 0 1 = cc in omega arith
 
+-- what the tests refuse is no success
+pub refused_own : (t : Table) (o : Outcome) → Err o ≡ checked t → o ≡ Read → ⊥
+unfolding OwnNumber
+refused_own t o h e = let k : Err Read ≡ checked t = rw e at h in go (checked t) (checked_own t) k
+  where
+    go : (c : Result ℕ Outcome) → OwnAnswer c → Err Read ≡ c → ⊥
+    go (Ok n) a h = let z : ◌≡◌ {A = ℕ} 0 1 = cc in absurd (omega arith)
+    go (Err q) a h = let z : q ≡ Read = cc in rw z at a
+
 -- ---- a part's outcome and its test
 abbrev SameOutcome : Outcome → Result ℕ Outcome → Type 0
 SameOutcome o (Ok n) = o ≡ Read
