@@ -70,18 +70,6 @@ fn first_vertex(set: u16) -> usize
     set.trailing_zeros() as usize
 }
 
-// A set of slots without s where nothing is left of its own.
-fn narrowed(among: u64, s: usize, set: u16) -> u64
-    requires { s < 64 }
-    ensures { (k : ℕ) → k < 64 → bit result k ≡ (bit among k && not (k == s && set == 0)) }
-{
-    if set == 0 {
-        among & !(1u64 << s)
-    } else {
-        among
-    }
-}
-
 // The number of vertex u of slot s in a choice.
 fn key_of(s: usize, u: usize) -> u16
     requires { (s < 64) × (u < 16) }
@@ -108,7 +96,9 @@ pub(crate) fn choose(m: u8, begun: u64, given: [u16; 64], ticks: &[u32; 64]) -> 
         let u = first_vertex(sets[s]);
         keys[count] = key_of(s, u);
         sets[s] &= !(1u16 << u);
-        among = narrowed(among, s, sets[s]);
+        if sets[s] == 0 {
+            among &= !(1u64 << s);
+        }
     }
     Chosen { keys, count: most }
 }

@@ -1,8 +1,10 @@
 use Rattle.std.proofs.Common.{◌≡◌, length, refl, arith, rules}
 use Rattle.graph.proofs.Bits.{one_less}
-use Rattle.machine.proofs.Among.{some_all, some_here}
+use Rattle.machine.proofs.Among.{some_all, some_here, narrow_none, narrow_one}
+use Rattle.machine.proofs.Marking.{one_slot}
 use Rattle.machine.proofs.Picking.{chooses_none, chooses_one, m_chosen, all_chosen}
 use Rattle.machine.proofs.choosing.choose.Goals as goal
+use Rattle.machine.proofs.choosing.choose.Goals.{then-sets-s-eq0, else-sets-s-eq0}
 
 pub loop-count-init : goal.loop-count-init
 loop-count-init c =
@@ -30,17 +32,16 @@ key_of-requires c = (c.next_slot-s.ensures.slot, c.first_vertex-u.ensures.0)
 pub bounds-keys-count : goal.bounds-keys-count
 bounds-keys-count c = omega (arith, c.requires.0)
 
-pub narrowed-among-requires : goal.narrowed-among-requires
-narrowed-among-requires c = c.next_slot-s.ensures.slot
-
 pub loop-count-preserved : goal.loop-count-preserved
 loop-count-preserved c =
     let l = c.loop-count in
     let i = c.next_slot-s in
     let u = c.first_vertex-u in
-    chooses_one c.args.ticks.now c.args.given l.sets l.keys l.among l.count i.result u.result _
-    c.key_of.result c.narrowed-among.result l.invariant (omega (arith, c.requires.0)) i.ensures u.ensures (λ k h. one_less _ u.result k u.ensures.0 h)
-    c.key_of.ensures c.narrowed-among.ensures
+    chooses_one c.args.ticks.now c.args.given l.sets l.keys l.among l.count i.result u.result _ c.key_of.result c.if-sets-s-eq0.among l.invariant
+    (omega (arith, c.requires.0)) i.ensures u.ensures (λ k h. one_less _ u.result k u.ensures.0 h) c.key_of.ensures (λ k b. elim c.if-sets-s-eq0.branch [
+      | then-sets-s-eq0 w ↦ rw w.among-is (narrow_one l.among i.result _ k _ i.ensures.slot b w.if-sets-s-eq0.true (one_slot i.result i.ensures.slot))
+      | else-sets-s-eq0 w ↦ rw w.among-is (narrow_none l.among i.result _ k w.if-sets-s-eq0.false)
+    ])
 
 pub returns : goal.returns
 returns c =
