@@ -66,7 +66,7 @@ pub(crate) fn tick_on(t: Table, mut st: State, named: u16) -> Ticked
         return Ticked::refused(st, reply);
     }
     rows.release(t, named, &mut st.remaining);
-    let chosen = choosing::own_choice(t, rows.clock, rows.live, &rows.deadlines, &st.remaining);
+    let chosen = choosing::own_choice(t, &rows, &st.remaining);
     rows.run(chosen, &mut st.remaining);
     let done = rows.done();
     rows.told(chosen, done, closing::tasks_in(done), &mut st.remaining)
@@ -90,7 +90,7 @@ pub fn offered(t: Table, mut st: State, named: u16) -> Offer
     let mut rows = Rows::of(&st);
     rows.release(t, named, &mut st.remaining);
     Offer {
-        sets: choosing::sets_of(t, rows.live, &st.remaining),
+        sets: choosing::sets_of(&t, rows.live, &st.remaining),
         left: rows.ticks_left(),
     }
 }
