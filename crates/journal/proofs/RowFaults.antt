@@ -2,13 +2,16 @@
 use mathlib.Core.Path.{◌≡◌, refl, sym, subst, ap, ap₂, ◌∙◌}
 use mathlib.Core.Bool.{Bool, true, false, ◌&&◌}
 use mathlib.Core.List.{List}
-use Prim.Native.Nat.{ℕ, ◌≤◌, ◌<◌, min}
+use Prim.Native.Nat.{ℕ, ◌≤◌, min}
 use native.Mathlib.Omega.{arith}
 use lib.ListN.{length}
 use lib.Dec.{ltb, leb}
 use borrow.Author.Tests.{le-ltb}
-use Rattle.graph.specs.Words.{bit, row, lowest, lowest_or}
-use Rattle.graph.proofs.Facts.{lowest_none, lowest_or_none}
+use Rattle.std.specs.Prelude.{is_some}
+use Rattle.std.specs.declared.option.Option.{Option}
+use Rattle.std.specs.declared.option.Option.TheVariants.{Some, None}
+use Rattle.graph.specs.Words.{bit, row, lowest_or}
+use Rattle.graph.proofs.Facts.{lowest_or_none}
 use Rattle.graph.proofs.Bits.{bit_zero}
 use Rattle.table.specs.declared.Table.{Table}
 use Rattle.machine.specs.declared.State.{State}
@@ -17,12 +20,11 @@ use Rattle.machine.specs.declared.Ticked.{Ticked}
 use Rattle.machine.specs.declared.Offer.{Offer}
 use Rattle.machine.specs.Steps.{released, availables, available_sets, left_at, offered}
 use Rattle.machine.specs.Ticking.{advance}
-use Rattle.machine.proofs.Lowest.{lowest_or_is}
+use Rattle.machine.proofs.Found.{lowest_some, lowest_no, some_of, none_of}
 use Rattle.journal.specs.Rows.{row_set, row_count, row_end, listed, is_stopped, cut_short, wrong_mark, bad_list, not_available, too_few, passes_over, choice_fault, set_fault, fault}
 use Rattle.journal.specs.declared.faults.Fault.{Fault}
 use Rattle.journal.specs.declared.faults.Fault.TheVariants.{AfterMiss, CutShort, WrongMark, BadList, NoSuchTask, TooEarly, NotAvailable, TooFew, PassesOver}
 use Rattle.journal.specs.Faults.{number}
-use Rattle.machine.proofs.Lowest.{found, found_none}
 
 -- none of the refusals' numbers is 0
 pub number_some : (f : Fault) → number f ≡ 0 → ⊥
@@ -77,27 +79,27 @@ module _ (t : Table) (st : State) (s : List ℕ) (at : ℕ) where
           abbrev early : ℕ → ℕ → Bool
           early set i = bit set i && ltb 0 (wait st i)
 
-          module _ (r : ℕ) (e : r ≡ lowest 16 16 (above (row_set s at))) where
-            pub beyond_31 : r < 16 → fault t st s at ≡ 31
+          module _ (r : Option ℕ) (e : r ≡ lowest_or 16 (above (row_set s at)) Some None) where
+            pub beyond_31 : is_some r ≡ true → fault t st s at ≡ 31
             unfolding set_fault
-            beyond_31 h = to_set ∙ lowest_or_is 16 (above (row_set s at)) (λ i. 31) _ r (found 16 16 (above (row_set s at)) (omega arith) r e h)
+            beyond_31 h = let y = some_of r h in to_set ∙ lowest_some 16 (above (row_set s at)) (λ i. 31) _ y.0 (sym e ∙ y.1)
 
-            module _ (h : 16 ≤ r) (n_high : t.n ≤ 16) (q : ℕ) (f : q ≡ lowest 16 t.n (early (row_set s at))) where
+            module _ (h : is_some r ≡ false) (q : Option ℕ) (f : q ≡ lowest_or t.n (early (row_set s at)) Some None) where
               to_early : fault t st s at ≡ lowest_or t.n (early (row_set s at)) (λ i. 33) (choice_fault t (released t st (row_set s at)) s at)
               unfolding set_fault
-              to_early = to_set ∙ lowest_or_none 16 (above (row_set s at)) (λ i. 31) _ (found_none 16 16 (above (row_set s at)) (omega arith) r e h)
+              to_early = to_set ∙ lowest_no 16 (above (row_set s at)) (λ i. 31) _ (sym e ∙ none_of r h)
 
-              pub early_33 : q < 16 → fault t st s at ≡ 33
-              early_33 k = to_early ∙ lowest_or_is t.n (early (row_set s at)) (λ i. 33) _ q (found 16 t.n (early (row_set s at)) n_high q f k)
+              pub early_33 : is_some q ≡ true → fault t st s at ≡ 33
+              early_33 k = let y = some_of q k in to_early ∙ lowest_some t.n (early (row_set s at)) (λ i. 33) _ y.0 (sym f ∙ y.1)
 
-              pub set_passes : 16 ≤ q → fault t st s at ≡ choice_fault t (released t st (row_set s at)) s at
-              set_passes k = to_early ∙ lowest_or_none t.n (early (row_set s at)) (λ i. 33) _ (found_none 16 t.n (early (row_set s at)) n_high q f k)
+              pub set_passes : is_some q ≡ false → fault t st s at ≡ choice_fault t (released t st (row_set s at)) s at
+              set_passes k = to_early ∙ lowest_no t.n (early (row_set s at)) (λ i. 33) _ (sym f ∙ none_of q k)
 
           -- no task is named
-          pub none_named : t.n ≤ 16 → row_set s at ≡ 0 → fault t st s at ≡ choice_fault t (released t st (row_set s at)) s at
-          none_named h z = set_passes
-              16 (sym (lowest_none 16 16 _ (λ i b. off i (leb t.n i)))) (omega arith) h
-              16 (sym (lowest_none 16 t.n _ (λ i b. off i (ltb 0 (wait st i))))) (omega arith)
+          pub none_named : row_set s at ≡ 0 → fault t st s at ≡ choice_fault t (released t st (row_set s at)) s at
+          none_named z = set_passes
+              None (sym (lowest_or_none 16 (above (row_set s at)) Some None (λ i b. off i (leb t.n i)))) refl
+              None (sym (lowest_or_none t.n (early (row_set s at)) Some None (λ i b. off i (ltb 0 (wait st i))))) refl
             where
               off : (i : ℕ) (b : Bool) → bit (row_set s at) i && b ≡ false
               off i b = ap (λ (x : ℕ). bit x i && b) z ∙ ap (λ (x : Bool). x && b) (bit_zero i)

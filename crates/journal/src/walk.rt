@@ -46,10 +46,10 @@ fn checked_row<'a>(t: Table, st: State, bytes: &'a [u8], at: usize) -> Result<Ro
     if set == 0 {
         return Ok(row);
     }
-    if machine::first_beyond(set, t.n) < 16 {
+    if machine::first_beyond(set, t.n).is_some() {
         return Err(Fault::NoSuchTask);
     }
-    if machine::first_early(set, t.n, st) < 16 {
+    if machine::first_early(set, t.n, st).is_some() {
         return Err(Fault::TooEarly);
     }
     Ok(row)

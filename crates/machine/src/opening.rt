@@ -28,8 +28,8 @@ fn unopened(o: Outcome) -> Opened
 {
     Opened {
         reply: Reply {
-            number: table::number(o),
-            place: table::place(o),
+            number: o.number(),
+            place: o.place(),
             task: 255,
         },
         state: zeros(0, Phase::Stopped(255)),

@@ -3,7 +3,8 @@ use mathlib.Core.List.{List}
 use Prim.Native.Nat.{ℕ}
 use mathlib.Core.Bool.{◌&&◌}
 use lib.Dec.{ltb, leb}
-use Rattle.graph.specs.Words.{bit, lowest}
+use Rattle.std.specs.declared.option.Option.TheVariants.{Some, None}
+use Rattle.graph.specs.Words.{bit, lowest_or}
 use Rattle.machine.specs.States.{wait}
 use Rattle.machine.specs.Steps.{released}
 use Rattle.journal.specs.Rows.{row_set, bad_list, choice_fault, fault}
@@ -40,33 +41,33 @@ returns-then-set-eq0-clause-passed c =
     let runs = sym c.is_stopped.ensures ∙ c.if-is_stopped.false in
     let marked = sym c.is_unmarked.ensures ∙ c.if-is_unmarked.false in
     let in_order = sym c.is_bad_list.ensures ∙ c.if-is_bad_list.false in
-    let e = none_named a.t a.st r.bytes.now r.at runs r.whole marked in_order c.requires.n_high (sym c.set-set.ensures ∙ c.if-set-eq0.true) in
+    let e = none_named a.t a.st r.bytes.now r.at runs r.whole marked in_order (sym c.set-set.ensures ∙ c.if-set-eq0.true) in
     λ ok. moved (λ (s : List ℕ) (at : ℕ). fault a.t a.st s at ≡ choice_fault a.t (released a.t a.st (row_set s at)) s at) r.bytes.now _ r.at _ c.in-Some.ensures.0 c.in-Some.ensures.1 e
 
-pub returns-then-first_beyond-lt16-clause-refused : goal.returns-then-first_beyond-lt16-clause-refused
+pub returns-then-is_some-clause-refused : goal.returns-then-is_some-clause-refused
 unfolding bad_list
-returns-then-first_beyond-lt16-clause-refused c =
+returns-then-is_some-clause-refused c =
     let a = c.args in
     let r = c.in-Some.row in
     let runs = sym c.is_stopped.ensures ∙ c.if-is_stopped.false in
     let marked = sym c.is_unmarked.ensures ∙ c.if-is_unmarked.false in
     let in_order = sym c.is_bad_list.ensures ∙ c.if-is_bad_list.false in
-    let above = c.first_beyond.ensures ∙ ap (λ (x : ℕ). lowest 16 16 (λ i. bit x i && leb a.t.n i)) c.set-set.ensures in
+    let above = c.first_beyond.ensures ∙ ap (λ (x : ℕ). lowest_or 16 (λ i. bit x i && leb a.t.n i) Some None) c.set-set.ensures in
     moved (λ (s : List ℕ) (at : ℕ). fault c.args.t c.args.st s at ≡ 31) r.bytes.now _ r.at _ c.in-Some.ensures.0 c.in-Some.ensures.1
-    (beyond_31 a.t a.st r.bytes.now r.at runs r.whole marked in_order c.first_beyond.result above c.if-first_beyond-lt16.true)
+    (beyond_31 a.t a.st r.bytes.now r.at runs r.whole marked in_order c.first_beyond.result above (sym c.is_some.ensures ∙ c.if-is_some.true))
 
-pub returns-then-first_early-lt16-clause-refused : goal.returns-then-first_early-lt16-clause-refused
+pub returns-then-is_some-2-clause-refused : goal.returns-then-is_some-2-clause-refused
 unfolding bad_list
-returns-then-first_early-lt16-clause-refused c =
+returns-then-is_some-2-clause-refused c =
     let a = c.args in
     let r = c.in-Some.row in
     let runs = sym c.is_stopped.ensures ∙ c.if-is_stopped.false in
     let marked = sym c.is_unmarked.ensures ∙ c.if-is_unmarked.false in
     let in_order = sym c.is_bad_list.ensures ∙ c.if-is_bad_list.false in
-    let above = c.first_beyond.ensures ∙ ap (λ (x : ℕ). lowest 16 16 (λ i. bit x i && leb a.t.n i)) c.set-set.ensures in
-    let early = c.first_early.ensures ∙ ap (λ (x : ℕ). lowest 16 a.t.n (λ i. bit x i && ltb 0 (wait a.st i))) c.set-set.ensures in
+    let above = c.first_beyond.ensures ∙ ap (λ (x : ℕ). lowest_or 16 (λ i. bit x i && leb a.t.n i) Some None) c.set-set.ensures in
+    let early = c.first_early.ensures ∙ ap (λ (x : ℕ). lowest_or a.t.n (λ i. bit x i && ltb 0 (wait a.st i)) Some None) c.set-set.ensures in
     moved (λ (s : List ℕ) (at : ℕ). fault c.args.t c.args.st s at ≡ 33) r.bytes.now _ r.at _ c.in-Some.ensures.0 c.in-Some.ensures.1
-    (early_33 a.t a.st r.bytes.now r.at runs r.whole marked in_order c.first_beyond.result above c.if-first_beyond-lt16.false c.requires.n_high c.first_early.result early c.if-first_early-lt16.true)
+    (early_33 a.t a.st r.bytes.now r.at runs r.whole marked in_order c.first_beyond.result above (sym c.is_some.ensures ∙ c.if-is_some.false) c.first_early.result early (sym c.is_some-2.ensures ∙ c.if-is_some-2.true))
 
 pub returns-clause-passed : goal.returns-clause-passed
 unfolding bad_list
@@ -76,7 +77,7 @@ returns-clause-passed c =
     let runs = sym c.is_stopped.ensures ∙ c.if-is_stopped.false in
     let marked = sym c.is_unmarked.ensures ∙ c.if-is_unmarked.false in
     let in_order = sym c.is_bad_list.ensures ∙ c.if-is_bad_list.false in
-    let above = c.first_beyond.ensures ∙ ap (λ (x : ℕ). lowest 16 16 (λ i. bit x i && leb a.t.n i)) c.set-set.ensures in
-    let early = c.first_early.ensures ∙ ap (λ (x : ℕ). lowest 16 a.t.n (λ i. bit x i && ltb 0 (wait a.st i))) c.set-set.ensures in
-    let e = set_passes a.t a.st r.bytes.now r.at runs r.whole marked in_order c.first_beyond.result above c.if-first_beyond-lt16.false c.requires.n_high c.first_early.result early c.if-first_early-lt16.false in
+    let above = c.first_beyond.ensures ∙ ap (λ (x : ℕ). lowest_or 16 (λ i. bit x i && leb a.t.n i) Some None) c.set-set.ensures in
+    let early = c.first_early.ensures ∙ ap (λ (x : ℕ). lowest_or a.t.n (λ i. bit x i && ltb 0 (wait a.st i)) Some None) c.set-set.ensures in
+    let e = set_passes a.t a.st r.bytes.now r.at runs r.whole marked in_order c.first_beyond.result above (sym c.is_some.ensures ∙ c.if-is_some.false) c.first_early.result early (sym c.is_some-2.ensures ∙ c.if-is_some-2.false) in
     λ ok. moved (λ (s : List ℕ) (at : ℕ). fault a.t a.st s at ≡ choice_fault a.t (released a.t a.st (row_set s at)) s at) r.bytes.now _ r.at _ c.in-Some.ensures.0 c.in-Some.ensures.1 e
