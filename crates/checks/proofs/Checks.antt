@@ -17,14 +17,11 @@ use Rattle.table.specs.declared.Table.{Table}
 use Rattle.table.specs.declared.Outcome.{Outcome}
 use Rattle.table.specs.declared.Outcome.TheVariants.{Read, Short, Mark, Range, Ticks, Order, Edge, Cycle, Extra}
 use Rattle.table.specs.declared.Written.TheVariants.{Done, Refused, Unused, Room}
-use Rattle.table.specs.declared.Field.{Field}
-use Rattle.table.specs.declared.Field.TheVariants.{Stop, Got}
-use Rattle.table.specs.declared.EdgesRead.{EdgesRead}
-use Rattle.table.specs.declared.TaskRead.{TaskRead}
+use Rattle.std.specs.Prelude.{Result, Ok, Err}
 use Rattle.table.specs.declared.TableRead.{TableRead}
 use Rattle.checks.specs.declared.Checked.{Checked}
 use Rattle.table.specs.Memory.{no_succ, no_costs, no_tasks, no_row, task, vertices, D, T, succ, cost}
-use Rattle.table.specs.Reading.{onward, when_read, ranged, not_under, period_at, costs_at, add_edge, edges_at, bad_task, parts_at, task_at, bad_table, with_task, tasks_at, table_at, refused, ending, read}
+use Rattle.table.specs.Reading.{TaskRead, EdgesRead, onward, when_read, ranged, not_under, period_at, costs_at, add_edge, edges_at, bad_task, parts_at, task_at, bad_table, with_task, tasks_at, table_at, refused, ending, read}
 use Rattle.table.specs.Numbers.{number}
 use Rattle.table.specs.Writing.{bytes4, edge_bytes, encode_task, encode, unused_zero, writing}
 use Rattle.checks.specs.Checking.{stopped, keys_of, edge_tested, edges_tested, costs_tested, used_rows, parts_tested, task_tested, tasks_tested, checked}
@@ -70,7 +67,7 @@ module _ {X : Type 0} (out : X → Outcome) (next : X → ℕ) (stop : Outcome �
   agree_ranged outside n lo hi at x end g h k = go (leb lo x && leb x hi) refl
     where
       go : (b : Bool) → leb lo x && leb x hi ≡ b
-          → Agree (onward (pick b (Got x) (Stop (outside at))) stop g) (onward (pick b (Got x) (Stop (outside at))) stopped h) end
+          → Agree (onward (pick b (Ok x) (Err (outside at))) stop g) (onward (pick b (Ok x) (Err (outside at))) stopped h) end
       go true e = let p = both_true (leb lo x) (leb x hi) e in k (leb-true lo x p.0) (leb-true x hi p.1)
       go false e = both_stop (outside at) end (n at)
 
@@ -79,11 +76,11 @@ module _ {X : Type 0} (out : X → Outcome) (next : X → ℕ) (stop : Outcome �
   unfolding ranged not_under
   agree_period d at x end g h k = go (leb 1 x && leb x 1000000)
     where
-      order : (b : Bool) → Agree (onward (pick b (Got x) (Stop (Order at))) stop g) (onward (pick b (Got x) (Stop (Order at))) stopped h) end
+      order : (b : Bool) → Agree (onward (pick b (Ok x) (Err (Order at))) stop g) (onward (pick b (Ok x) (Err (Order at))) stopped h) end
       order true = k
       order false = both_stop (Order at) end (order_bad at)
 
-      go : (b : Bool) → Agree (onward (not_under d at (pick b (Got x) (Stop (Ticks at)))) stop g) (onward (not_under d at (pick b (Got x) (Stop (Ticks at)))) stopped h) end
+      go : (b : Bool) → Agree (onward (not_under d at (pick b (Ok x) (Err (Ticks at)))) stop g) (onward (not_under d at (pick b (Ok x) (Err (Ticks at)))) stopped h) end
       go true = order (leb d (4 * x))
       go false = both_stop (Ticks at) end (ticks_bad at)
 
@@ -117,8 +114,8 @@ edges_as v s (k ∷ ks) at low l r a e =
     rw (edge_as v low s at k (edge_bytes ks ++ r) a.0 a.1 e) (go (ltb (k % 16) v && not (eqb (k / 16) (k % 16))) i)
   where
     go : (b : Bool) → EdgesAgree (edges_at v s (length ks) (at + 2) (k + 1) (add_edge l k)) (edges_tested v ks (at + 2)) (add_all (add_edge l k) ks) (at + 2 + 2 * length ks)
-        → EdgesAgree (onward (pick b (Got k) (Stop (Edge at))) (λ o. record { outcome = o; succ = l }) λ key. edges_at v s (length ks) (at + 2) (key + 1) (add_edge l key))
-        (onward (pick b (Got k) (Stop (Edge at))) stopped λ _. edges_tested v ks (at + 2)) (add_all (add_edge l k) ks) (at + 2 * suc (length ks))
+        → EdgesAgree (onward (pick b (Ok k) (Err (Edge at))) (λ o. record { outcome = o; succ = l }) λ key. edges_at v s (length ks) (at + 2) (key + 1) (add_edge l key))
+        (onward (pick b (Ok k) (Err (Edge at))) stopped λ _. edges_tested v ks (at + 2)) (add_all (add_edge l k) ks) (at + 2 * suc (length ks))
     go true i = (i.0, λ h. let j = i.1 h in let z = j.1 in (j.0, omega arith))
     go false i = (refl, λ h. absurd (edge_bad at h))
 
@@ -136,11 +133,11 @@ module _ (t : Table) (typed : Typed t) where
       (go (ranged Ticks 0 1000000 at (cost t i j))
       (λ x. costs_as s i k (at + 4) (suc j) (u + 1) (set own u x) r (next_four s at (cost t i j) rest e₂) ∙ ap (costs_tested t.costs k (at + 4)) q))
     where
-      go : (f : Field) → ((x : ℕ) → (costs_at s k (at + 4) (u + 1) (set own u x)).outcome ≡ costs_tested t.costs k (at + 4) (16 * i + j + 1))
+      go : (f : Result ℕ Outcome) → ((x : ℕ) → (costs_at s k (at + 4) (u + 1) (set own u x)).outcome ≡ costs_tested t.costs k (at + 4) (16 * i + j + 1))
           → (onward f (λ o. record { outcome = o; costs = own }) (λ x. costs_at s k (at + 4) (u + 1) (set own u x))).outcome
           ≡ onward f (λ o. o) (λ _. costs_tested t.costs k (at + 4) (16 * i + j + 1))
-      go (Stop o) h = refl
-      go (Got x) h = h x
+      go (Err o) h = refl
+      go (Ok x) h = h x
 
   -- ---- a task
   module _ (s : List ℕ) (at i : ℕ) (r : List ℕ) (e : drop at s ≡ encode_task t i ++ r) where

@@ -10,7 +10,7 @@ use Rattle.table.specs.declared.Task.{Task}
 use Rattle.table.specs.declared.Table.{Table}
 use Rattle.table.specs.declared.Outcome.{Outcome}
 use Rattle.table.specs.declared.Outcome.TheVariants.{Read, Short, Mark, Range, Ticks, Order, Edge, Cycle, Extra}
-use Rattle.table.specs.declared.Field.TheVariants.{Stop, Got}
+use Rattle.std.specs.Prelude.{Ok, Err}
 use Rattle.checks.specs.declared.Checked.{Checked}
 use Rattle.table.specs.Memory.{task}
 use Rattle.table.specs.Reading.{onward, when_read, ranged, not_under}
@@ -28,7 +28,7 @@ OwnNumber (Edge p) = Unit {0}
 OwnNumber (Cycle p) = Unit {0}
 OwnNumber (Extra p) = ⊥
 
-pick_own : (b : Bool) (x : ℕ) (o : Outcome) → OwnNumber o → (g : ℕ → Checked) → ((x : ℕ) → OwnNumber (g x).outcome) → OwnNumber (onward (pick b (Got x) (Stop o)) stopped g).outcome
+pick_own : (b : Bool) (x : ℕ) (o : Outcome) → OwnNumber o → (g : ℕ → Checked) → ((x : ℕ) → OwnNumber (g x).outcome) → OwnNumber (onward (pick b (Ok x) (Err o)) stopped g).outcome
 unfolding stopped
 pick_own true x o h g k = k x
 pick_own false x o h g k = h
@@ -45,7 +45,7 @@ period_own : (d at x : ℕ) (g : ℕ → Checked) → ((x : ℕ) → OwnNumber (
 unfolding ranged not_under stopped OwnNumber
 period_own d at x g k = go (leb 1 x && leb x 1000000)
   where
-    go : (b : Bool) → OwnNumber (onward (not_under d at (pick b (Got x) (Stop (Ticks at)))) stopped g).outcome
+    go : (b : Bool) → OwnNumber (onward (not_under d at (pick b (Ok x) (Err (Ticks at)))) stopped g).outcome
     go true = pick_own (leb d (4 * x)) x (Order at) tt g k
     go false = tt
 
@@ -67,7 +67,7 @@ costs_own costs zero at slot = tt
 costs_own costs (suc k) at slot = go (leb 0 (get_or costs slot 0) && leb (get_or costs slot 0) 1000000) (costs_own costs k (at + 4) (slot + 1))
   where
     go : (b : Bool) → OwnNumber (costs_tested costs k (at + 4) (slot + 1))
-        → OwnNumber (onward (pick b (Got (get_or costs slot 0)) (Stop (Ticks at))) (λ o. o) (λ _. costs_tested costs k (at + 4) (slot + 1)))
+        → OwnNumber (onward (pick b (Ok (get_or costs slot 0)) (Err (Ticks at))) (λ o. o) (λ _. costs_tested costs k (at + 4) (slot + 1)))
     go true h = h
     go false h = tt
 

@@ -13,7 +13,7 @@ use Rattle.table.specs.declared.Task.{Task}
 use Rattle.table.specs.declared.Table.{Table}
 use Rattle.table.specs.declared.Outcome.{Outcome}
 use Rattle.table.specs.declared.Outcome.TheVariants.{Read, Short, Mark, Range, Ticks, Order, Edge, Cycle, Extra}
-use Rattle.table.specs.declared.Field.TheVariants.{Stop, Got}
+use Rattle.std.specs.Prelude.{Ok, Err}
 use Rattle.checks.specs.declared.Checked.{Checked}
 use Rattle.table.specs.Memory.{task}
 use Rattle.table.specs.Reading.{onward, when_read, ranged, not_under}
@@ -92,7 +92,7 @@ next_ranged : (outside : ℕ → Outcome) (lo hi at x end : ℕ) (g : ℕ → Ch
 unfolding ranged stopped
 next_ranged outside lo hi at x end g k = go (leb lo x) (leb x hi) refl
   where
-    go : (b c : Bool) → leb x hi ≡ c → (onward (pick (b && c) (Got x) (Stop (outside at))) stopped g).next ≤ end
+    go : (b c : Bool) → leb x hi ≡ c → (onward (pick (b && c) (Ok x) (Err (outside at))) stopped g).next ≤ end
     go true true e = k (leb-true x hi e)
     go true false e = omega arith
     go false c e = omega arith
@@ -101,11 +101,11 @@ next_period : (d at x end : ℕ) (g : ℕ → Checked) → (g x).next ≤ end �
 unfolding ranged not_under stopped
 next_period d at x end g k = go (leb 1 x && leb x 1000000)
   where
-    order : (b : Bool) → (onward (pick b (Got x) (Stop (Order at))) stopped g).next ≤ end
+    order : (b : Bool) → (onward (pick b (Ok x) (Err (Order at))) stopped g).next ≤ end
     order true = k
     order false = omega arith
 
-    go : (b : Bool) → (onward (not_under d at (pick b (Got x) (Stop (Ticks at)))) stopped g).next ≤ end
+    go : (b : Bool) → (onward (not_under d at (pick b (Ok x) (Err (Ticks at)))) stopped g).next ≤ end
     go true = order (leb d (4 * x))
     go false = omega arith
 

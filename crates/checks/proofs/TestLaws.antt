@@ -16,7 +16,7 @@ use Rattle.graph.specs.Words.{pick, bit, row_from, row, also_if, join_from, in_o
 use Rattle.graph.proofs.Facts.{length_row, row_at}
 use Rattle.table.specs.declared.Outcome.{Outcome}
 use Rattle.table.specs.declared.Outcome.TheVariants.{Read, Ticks, Edge}
-use Rattle.table.specs.declared.Field.TheVariants.{Stop, Got}
+use Rattle.std.specs.Prelude.{Ok, Err}
 use Rattle.checks.specs.declared.Checked.{Checked}
 use Rattle.table.specs.Reading.{onward, when_read, ranged}
 use Rattle.checks.specs.Checking.{stopped, row_keys, keys_of, edges_of, edge_tested, edges_tested, costs_tested, used_rows}
@@ -62,14 +62,14 @@ edges_counted v succ h = rw (le-ltb 16 v h) refl
 
 -- ---- a number held to its range
 module _ (outside : ℕ → Outcome) (lo hi at x : ℕ) where
-  pub under : x < lo → ranged outside lo hi at x ≡ Stop (outside at)
+  pub under : x < lo → ranged outside lo hi at x ≡ Err (outside at)
   under h = sym (ranged_low outside lo hi at x h)
 
-  pub over : hi < x → ranged outside lo hi at x ≡ Stop (outside at)
+  pub over : hi < x → ranged outside lo hi at x ≡ Err (outside at)
   unfolding ranged
   over h = rw (lt-leb x hi h, and-false (leb lo x))
 
-  pub within : lo ≤ x → x ≤ hi → ranged outside lo hi at x ≡ Got x
+  pub within : lo ≤ x → x ≤ hi → ranged outside lo hi at x ≡ Ok x
   within h k = sym (ranged_got outside lo hi at x h k)
 
 -- ---- costs
@@ -88,15 +88,15 @@ costs_end costs k p slot e = rw e
 
 -- ---- an edge
 module _ (v u w at : ℕ) (b : w < 16) where
-  pub to_high : v ≤ w → edge_tested v (16 * u + w) at ≡ Stop (Edge at)
+  pub to_high : v ≤ w → edge_tested v (16 * u + w) at ≡ Err (Edge at)
   unfolding edge_tested
   to_high h = rw ((slot u w b).1, le-ltb w v h)
 
-  pub to_same : u ≡ w → edge_tested v (16 * u + w) at ≡ Stop (Edge at)
+  pub to_same : u ≡ w → edge_tested v (16 * u + w) at ≡ Err (Edge at)
   unfolding edge_tested
   to_same h = rw ((slot u w b).1, (slot u w b).0, eq-eqb u w h, and-false (ltb w v))
 
-  pub to_other : w < v → (u ≡ w → ⊥) → edge_tested v (16 * u + w) at ≡ Got (16 * u + w)
+  pub to_other : w < v → (u ≡ w → ⊥) → edge_tested v (16 * u + w) at ≡ Ok (16 * u + w)
   unfolding edge_tested
   to_other h n = rw ((slot u w b).1, (slot u w b).0, lt-ltb w v h, ne_eqb u w n)
 
@@ -185,9 +185,9 @@ edges_append v [] ys p = refl
 edges_append v (k ∷ xs) ys p = go (ltb (k % 16) v && not (eqb (k / 16) (k % 16))) (edges_append v xs ys (p + 2))
   where
     go : (b : Bool) → edges_tested v (xs ++ ys) (p + 2) ≡ when_read (edges_tested v xs (p + 2)).outcome stopped (λ _. edges_tested v ys (edges_tested v xs (p + 2)).next)
-        → onward (pick b (Got k) (Stop (Edge p))) stopped (λ _. edges_tested v (xs ++ ys) (p + 2))
-        ≡ when_read (onward (pick b (Got k) (Stop (Edge p))) stopped (λ _. edges_tested v xs (p + 2))).outcome stopped
-        (λ _. edges_tested v ys (onward (pick b (Got k) (Stop (Edge p))) stopped (λ _. edges_tested v xs (p + 2))).next)
+        → onward (pick b (Ok k) (Err (Edge p))) stopped (λ _. edges_tested v (xs ++ ys) (p + 2))
+        ≡ when_read (onward (pick b (Ok k) (Err (Edge p))) stopped (λ _. edges_tested v xs (p + 2))).outcome stopped
+        (λ _. edges_tested v ys (onward (pick b (Ok k) (Err (Edge p))) stopped (λ _. edges_tested v xs (p + 2))).next)
     go true h = h
     go false h = refl
 
@@ -197,7 +197,7 @@ edges_next v [] p = omega arith
 edges_next v (k ∷ ks) p = go (ltb (k % 16) v && not (eqb (k / 16) (k % 16))) (edges_next v ks (p + 2))
   where
     go : (b : Bool) → (edges_tested v ks (p + 2)).next ≤ p + 2 + 2 * length ks
-        → (onward (pick b (Got k) (Stop (Edge p))) stopped (λ _. edges_tested v ks (p + 2))).next ≤ p + 2 * suc (length ks)
+        → (onward (pick b (Ok k) (Err (Edge p))) stopped (λ _. edges_tested v ks (p + 2))).next ≤ p + 2 * suc (length ks)
     go true h = omega arith
     go false h = omega arith
 

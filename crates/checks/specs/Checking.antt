@@ -9,8 +9,7 @@ use Rattle.table.specs.declared.Table.{Table}
 use Rattle.table.specs.declared.Outcome.{Outcome}
 use Rattle.table.specs.declared.Outcome.TheVariants.{Read, Range, Ticks, Edge, Cycle}
 use Rattle.checks.specs.declared.Checked.{Checked}
-use Rattle.table.specs.declared.Field.{Field}
-use Rattle.table.specs.declared.Field.TheVariants.{Stop, Got}
+use Rattle.std.specs.Prelude.{Result, Ok, Err}
 use Rattle.table.specs.Memory.{task}
 use Rattle.table.specs.Reading.{onward, when_read, ranged, not_under}
 
@@ -32,8 +31,8 @@ unfoldable pub edges_of : ℕ → List ℕ → ℕ
 edges_of v succ = pick (ltb 16 v) 0 (length (keys_of v succ))
 
 -- 6: "an end not below v, or from equal to to". The keys ascend, and each from is below v.
-unfoldable pub edge_tested : ℕ → ℕ → ℕ → Field
-edge_tested v key at = pick (ltb (key % 16) v && not (eqb (key / 16) (key % 16))) (Got key) (Stop (Edge at))
+unfoldable pub edge_tested : ℕ → ℕ → ℕ → Result ℕ Outcome
+edge_tested v key at = pick (ltb (key % 16) v && not (eqb (key / 16) (key % 16))) (Ok key) (Err (Edge at))
 
 unfoldable pub edges_tested : ℕ → List ℕ → ℕ → Checked
 edges_tested v [] at = record { outcome = Read; next = at }

@@ -1,7 +1,6 @@
 -- The code's rounds for what is not done: after k of them, the set holds those of the first v that are not done within k edges.
 use mathlib.Core.Path.{◌≡◌, refl, sym, ap, ◌∙◌}
 use mathlib.Core.Bool.{Bool, true, false, ◌&&◌, ◌||◌, not, not-not}
-use mathlib.Core.List.{List}
 use Prim.Native.Nat.{ℕ, zero, suc, ◌+◌, ◌-◌, ◌^◌, ◌≤◌, ◌<◌}
 use native.Mathlib.Omega.{arith}
 use native.Mathlib.Decide.{dec_lt}
@@ -10,12 +9,12 @@ use lib.Bits.{bit_and, bit_or}
 use borrow.Author.Tests.{lt-ltb, le-ltb, ltb-true, eq-eqb, eqb-true}
 use Rattle.graph.specs.Words.{flag, bit, all, members, set_of}
 use Rattle.graph.specs.Graph.{led_to, done_within, done, held_back}
-use Rattle.graph.proofs.Facts.{clash, both_true, and_true, all_at, all_of, all_not, all_same, off_when}
+use Rattle.graph.proofs.Facts.{clash, both_true, and_true, all_at, all_not, all_same, off_when}
 use Rattle.graph.proofs.Lists.{any_some, some_any}
 use Rattle.graph.proofs.Bits.{bit_or_lem, bit_and_lem, bit_zero, bit_past}
 use Rattle.graph.proofs.Members.{held_in, in_held, bit_without}
 use Rattle.graph.proofs.Sets.{bit_set}
-use Rattle.graph.proofs.Done.{done_by, done_same, by_rule, rule_says, rule_same, one_back, within_zero, so_if, if_so}
+use Rattle.graph.proofs.Done.{done_same, by_rule, rule_says, rule_same, one_back, within_zero, so_if}
 
 same_when : (a b : Bool) → (a ≡ true → b ≡ true) → (b ≡ true → a ≡ true) → a ≡ b
 same_when true b h k = sym (h refl)

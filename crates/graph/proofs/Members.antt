@@ -4,10 +4,11 @@ use mathlib.Core.Bool.{Bool, true, false, not, ◌&&◌}
 use mathlib.Core.List.{List, [], ◌∷◌}
 use Prim.Native.Nat.{ℕ, zero, suc, ◌+◌, ◌^◌, ◌-◌, ◌≤◌, ◌<◌}
 use native.Mathlib.Omega.{arith}
+use native.Mathlib.Nat.{mod-eq_of_lt}
 use native.Mathlib.Decide.{ℕ_discrete, dec_lt}
 use lib.ListN.{length}
 use lib.Dec.{eqb}
-use lib.Bits.{bit_and, and_le_r}
+use lib.Bits.{bit_and, and_le_r, and_comm, and_mask}
 use lib.Count.{count_trailing_zeros}
 use borrow.Author.Tests.{eq-eqb, ne_eqb}
 use Rattle.graph.specs.Words.{bit, row_from, row, also_if, those, those_below, members, lowest, is_in, is_none}
@@ -91,6 +92,10 @@ members_and x y =
 pub members_full : members 65535 ≡ row 16 (λ i. i)
 unfolding members those_below those also_if row row_from bit
 members_full = refl
+
+-- and the set of all sixteen leaves out none of another
+pub full_and : (x : ℕ) → x < 2 ^ 16 → bit_and 65535 x ≡ x
+full_and x h = and_comm 65535 x ∙ and_mask x 16 ∙ mod-eq_of_lt h
 
 pub members_zero : members 0 ≡ []
 unfolding members those_below those also_if row row_from bit

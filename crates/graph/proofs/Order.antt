@@ -7,7 +7,7 @@ use native.Mathlib.Omega.{arith}
 use native.Mathlib.Decide.{ℕ_discrete}
 use lib.ListN.{length, get_or, set, length-set}
 use lib.Seq.{get_or-set_same, get_or-set_other}
-use Rattle.graph.specs.Words.{pick, bit, members, lowest, is_in}
+use Rattle.graph.specs.Words.{pick, members, is_in}
 use Rattle.graph.specs.Graph.{edge}
 use Rattle.graph.specs.Order.{raised, passed, passed_all, best_all}
 use Rattle.graph.proofs.Facts.{first_in, other_in, tail_in}
@@ -19,41 +19,37 @@ module _ (end : ℕ) where
   unfolding raised
   raised_end starts rest e = sym (ap (raised starts end) (ap members e ∙ members_zero))
 
-  pub raised_more : (starts : List ℕ) (rest less w m : ℕ) → w ≡ lowest 16 16 (bit rest) → members rest ≡ lowest 16 16 (bit rest) ∷ members less
-      → m ≡ max (get_or starts w 0) end → raised (set starts w m) end (members less) ≡ raised starts end (members rest)
+  pub raised_more : (starts : List ℕ) (rest less w m : ℕ) → members rest ≡ w ∷ members less → m ≡ max (get_or starts w 0) end → raised (set starts w m) end (members less) ≡ raised starts end (members rest)
   unfolding raised
-  raised_more starts rest less w m e q h =
-      ap (λ (x : ℕ). raised (set starts w x) end (members less)) h
-      ∙ ap (raised starts end) (ap (λ (t : ℕ). t ∷ members less) e ∙ sym q)
+  raised_more starts rest less w m q h =
+      ap (λ (x : ℕ). raised (set starts w x) end (members less)) h ∙ ap (raised starts end) (sym q)
 
 module _ (succ times : List ℕ) where
   pub passed_all_end : (starts : List ℕ) (rest : ℕ) → rest ≡ 0 → starts ≡ passed_all succ times starts (members rest)
   unfolding passed_all
   passed_all_end starts rest e = sym (ap (passed_all succ times starts) (ap members e ∙ members_zero))
 
-  pub passed_all_more : (starts next : List ℕ) (rest less u t : ℕ) → u ≡ lowest 16 16 (bit rest)
-      → members rest ≡ lowest 16 16 (bit rest) ∷ members less → t ≡ get_or times u 0
+  pub passed_all_more : (starts next : List ℕ) (rest less u t : ℕ) → members rest ≡ u ∷ members less → t ≡ get_or times u 0
       → next ≡ raised starts (get_or starts u 0 + t) (members (get_or succ u 0)) → (next ≡ passed succ times starts u)
       × (passed_all succ times next (members less) ≡ passed_all succ times starts (members rest))
   unfolding passed_all passed
-  passed_all_more starts next rest less u t e q h n =
+  passed_all_more starts next rest less u t q h n =
       let p : next ≡ passed succ times starts u = n ∙ ap (λ (x : ℕ). raised starts (get_or starts u 0 + x) (members (get_or succ u 0))) h in (
         p,
         ap (λ (l : List ℕ). passed_all succ times l (members less)) p
-            ∙ ap (passed_all succ times starts) (ap (λ (t : ℕ). t ∷ members less) e ∙ sym q),
+            ∙ ap (passed_all succ times starts) (sym q),
       )
 
   pub best_all_end : (starts : List ℕ) (best rest : ℕ) → rest ≡ 0 → best ≡ best_all succ times starts best (members rest)
   unfolding best_all
   best_all_end starts best rest e = sym (ap (best_all succ times starts best) (ap members e ∙ members_zero))
 
-  pub best_all_more : (starts next : List ℕ) (best most rest less u t : ℕ) → u ≡ lowest 16 16 (bit rest)
-      → members rest ≡ lowest 16 16 (bit rest) ∷ members less → t ≡ get_or times u 0 → next ≡ passed succ times starts u
+  pub best_all_more : (starts next : List ℕ) (best most rest less u t : ℕ) → members rest ≡ u ∷ members less → t ≡ get_or times u 0 → next ≡ passed succ times starts u
       → most ≡ max best (get_or starts u 0 + t) → best_all succ times next most (members less) ≡ best_all succ times starts best (members rest)
   unfolding best_all
-  best_all_more starts next best most rest less u t e q h n m =
+  best_all_more starts next best most rest less u t q h n m =
       ap₂ (λ (l : List ℕ) (b : ℕ). best_all succ times l b (members less)) n (m ∙ ap (λ (x : ℕ). max best (get_or starts u 0 + x)) h)
-      ∙ ap (best_all succ times starts best) (ap (λ (x : ℕ). x ∷ members less) e ∙ sym q)
+      ∙ ap (best_all succ times starts best) (sym q)
 
 -- ---- what is raised
 pub raised_length : (starts : List ℕ) (end : ℕ) (ws : List ℕ) → length (raised starts end ws) ≡ length starts

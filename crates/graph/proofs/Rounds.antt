@@ -1,5 +1,5 @@
 -- The rounds of the longest chain: what holds between them, that a round keeps it, and what it gives at the end.
-use mathlib.Core.Path.{◌≡◌, refl, sym, ap, ◌∙◌}
+use mathlib.Core.Path.{◌≡◌, refl, sym, ap, subst, ◌∙◌}
 use mathlib.Core.Logic.{◌⊎◌, inl, inr, ⊎_elim}
 use mathlib.Core.Bool.{Bool, true, false, not, ◌&&◌}
 use mathlib.Core.List.{List}
@@ -15,7 +15,7 @@ use Rattle.graph.specs.Order.{passed_all, best_all}
 use Rattle.graph.proofs.Facts.{clash, both_true, off_when, length_row, row_in}
 use Rattle.graph.proofs.Lists.{some_any}
 use Rattle.graph.proofs.Bits.{bit_zero, bit_and_lem}
-use Rattle.graph.proofs.Members.{members_and, members_full, those_split, held_in, in_held, in_members, bit_without, members_without}
+use Rattle.graph.proofs.Members.{members_and, members_full, full_and, those_split, held_in, in_held, in_members, bit_without, members_without}
 use Rattle.graph.proofs.Settle.{comes_to_none, all_in_lem, round_on, round_end}
 use Rattle.graph.proofs.Rank.{led_below}
 use Rattle.graph.proofs.Order.{Room, passed_all_room}
@@ -122,3 +122,19 @@ module _ (succ times : List ℕ) where
     round_done e z =
         let a : acyclic succ ≡ true = sym r.test ∙ round_end succ left led h r.bits e ∙ eq-eqb left 0 z in
         best_is succ times starts best (fewer_out succ times starts best (λ x b o. ap (λ (n : ℕ). bit n x) z ∙ bit_zero x) r.going) a ∙ rw a refl
+
+  -- the first round takes all but what the sixteen lead to
+  module _ (bits : (u : ℕ) → get_or succ u 0 < 2 ^ 16) (led : ℕ) (small : led < 2 ^ 16) (h : (w : ℕ) → bit led w ≡ led_to (edge succ) (members 65535) w) where
+    all_but : bit_and 65535 (65535 - led) ≡ 65535 - led
+    all_but = full_and (65535 - led) (omega arith)
+
+    pub room_before : (w : ℕ) → w < 16 → get_or (replicate 16 0) w 0 + 4294967296 * length (members (65535 - led)) ≤ 68719476736
+    room_before w b = rw all_but at (room_for 65535 (replicate 16 0) 0 (round_first bits) led small h w b)
+
+    pub round_second : ((u : ℕ) → get_or times u 0 < 4294967296) → (later : List ℕ) (most : ℕ)
+        → later ≡ passed_all succ times (replicate 16 0) (members (65535 - led))
+        → most ≡ best_all succ times (replicate 16 0) 0 (members (65535 - led)) → Round succ times led later most
+    round_second brief later most e q =
+        subst (λ (x : ℕ). Round succ times x later most) (full_and led small)
+        (round_next 65535 (replicate 16 0) 0 (round_first bits) led small h brief later most
+        (rw all_but e) (rw all_but q))

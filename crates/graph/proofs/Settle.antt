@@ -3,12 +3,14 @@ use mathlib.Core.Path.{◌≡◌, refl, sym, ap, ◌∙◌}
 use mathlib.Core.Logic.{⊎_elim}
 use mathlib.Core.Bool.{Bool, true, false, ◌||◌, or-false}
 use mathlib.Core.List.{List, [], ◌∷◌}
-use Prim.Native.Nat.{ℕ, zero, suc, ◌+◌, ◌-◌, ◌^◌, ◌≤◌, ◌<◌}
+use Prim.Native.Nat.{ℕ, zero, suc, ◌+◌, ◌^◌, ◌≤◌, ◌<◌}
 use native.Mathlib.Omega.{arith}
+use native.Mathlib.Nat.{add-zero, zero-add}
 use lib.ListN.{length, get_or}
 use lib.Dec.{eqb}
 use lib.Bits.{bit_and, bit_or}
-use Rattle.graph.specs.Words.{pick, bit, row_from, row, those, members, lowest, any_of, is_none}
+use Rattle.std.specs.Prelude.{fold}
+use Rattle.graph.specs.Words.{pick, bit, row_from, row, those, members, any_of, is_none}
 use Rattle.graph.specs.Graph.{edge, led_to, sweep, sweeps, acyclic_among, acyclic}
 use Rattle.graph.proofs.Bits.{bit_zero, bit_or_lem}
 use Rattle.graph.proofs.Members.{those_same, members_and, members_full, members_zero, members_none, members_short}
@@ -36,10 +38,6 @@ module _ (E : ℕ → ℕ → Bool) where
   pub settled : (l : List ℕ) (k : ℕ) → length l ≤ k → sweep E (sweeps E k l) ≡ sweeps E k l
   settled l k h = ⊎_elim (λ p. none_swept (sweeps E k l) (omega arith)) (λ p. p) (stops E l k)
 
--- the vertices from u on
-unfoldable pub from : ℕ → List ℕ
-from u = row_from (16 - u) u (λ j. j)
-
 -- ---- the set of what is led to, gathered vertex by vertex
 module _ (succ : List ℕ) where
   pub led_none : (set w : ℕ) → (bit 0 w || led_to (edge succ) (members set) w) ≡ led_to (edge succ) (members set) w
@@ -66,23 +64,25 @@ module _ (succ : List ℕ) where
   led_end led rest e w =
       sym (ap (λ (l : List ℕ). bit led w || led_to (edge succ) l w) (ap members e ∙ members_zero) ∙ or-false (bit led w))
 
-  pub all_none : (w : ℕ) → (bit 0 w || led_to (edge succ) (from 0) w) ≡ led_to (edge succ) (members 65535) w
-  unfolding from row
-  all_none w = ap (λ (l : List ℕ). bit 0 w || led_to (edge succ) l w) (sym members_full) ∙ led_none 65535 w
+  -- what stands from u on, or-ed together
+  or_from : (acc u : ℕ) (l : List ℕ) → ((k : ℕ) → get_or succ (u + k) 0 ≡ get_or l k 0) → (w : ℕ)
+      → bit (fold bit_or acc l) w ≡ (bit acc w || led_to (edge succ) (row_from (length l) u (λ j. j)) w)
+  unfolding led_to any_of row_from
+  or_from acc u [] h w = sym (or-false (bit acc w))
+  or_from acc u (x ∷ l) h w =
+      let e : get_or succ u 0 ≡ x = ap (λ (k : ℕ). get_or succ k 0) (sym (add-zero u)) ∙ h 0 in
+      or_from (bit_or acc x) (suc u) l (λ k. ap (λ (n : ℕ). get_or succ n 0) (let z : suc u + k ≡ u + suc k = omega arith in z) ∙ h (suc k)) w
+      ∙ ap (λ (y : ℕ). bit (bit_or acc y) w || led_to (edge succ) (row_from (length l) (suc u) (λ j. j)) w) (sym e)
+      ∙ led_one acc u (row_from (length l) (suc u) (λ j. j)) w
 
-  pub all_more : (led u : ℕ) → u < 16 → (w : ℕ)
-      → (bit (bit_or led (get_or succ u 0)) w || led_to (edge succ) (from (u + 1)) w) ≡ (bit led w || led_to (edge succ) (from u) w)
-  unfolding from row_from
-  all_more led u h w =
-      let e : 16 - u ≡ suc (16 - (u + 1)) = omega arith in
-      let n : u + 1 ≡ suc u = omega arith in
-      led_one led u (from (u + 1)) w
-      ∙ ap (λ (m : ℕ). bit led w || led_to (edge succ) (u ∷ row_from (16 - (u + 1)) m (λ j. j)) w) n
-      ∙ ap (λ (k : ℕ). bit led w || led_to (edge succ) (row_from k u (λ j. j)) w) (sym e)
-
-  pub all_end : (led u : ℕ) → u ≡ 16 → (w : ℕ) → bit led w ≡ (bit led w || led_to (edge succ) (from u) w)
-  unfolding led_to any_of from row_from
-  all_end led u e w = sym (ap (λ (n : ℕ). bit led w || led_to (edge succ) (from n) w) e ∙ or-false (bit led w))
+  -- the sixteen, or-ed together, are what any of them leads to
+  pub or_all : length succ ≡ 16 → (w : ℕ) → bit (fold bit_or 0 succ) w ≡ led_to (edge succ) (members 65535) w
+  unfolding row
+  or_all h w =
+      or_from 0 0 succ (λ k. ap (λ (n : ℕ). get_or succ n 0) (zero-add k)) w
+      ∙ ap (λ (n : ℕ). bit 0 w || led_to (edge succ) (row_from n 0 (λ j. j)) w) h
+      ∙ ap (λ (l : List ℕ). bit 0 w || led_to (edge succ) l w) (sym members_full)
+      ∙ led_none 65535 w
 
 -- the round on sets of bits: `led` is the set of the vertices that are led to
 pub round_is : (E : ℕ → ℕ → Bool) (left led : ℕ) → ((w : ℕ) → bit led w ≡ led_to E (members left) w) → sweep E (members left) ≡ members (bit_and left led)

@@ -2,13 +2,14 @@
 -- and vertex, so the same numbers are added up in another order.
 use mathlib.Core.Path.{◌≡◌, refl, sym, ap, ◌∙◌}
 use mathlib.Core.Bool.{Bool, true, false}
-use mathlib.Core.List.{List}
+use mathlib.Core.List.{List, ◌∷◌}
 use Prim.Native.Nat.{ℕ, zero, suc, ◌+◌, ◌*◌, ◌/◌, ◌%◌, ◌^◌, ◌<◌}
 use native.Mathlib.Omega.{arith}
 use native.Mathlib.Nat.{add-zero, mul-zero, mul-suc}
-use native.Mathlib.Numerals.{add-one}
 use lib.ListN.{length, get_or}
 use lib.Count.{ones, ones_in, ones_cat}
+use Rattle.std.specs.List.{sum_by}
+use Rattle.std.proofs.lemmas.List.Recursion.{is_sum_by}
 use Rattle.graph.specs.Words.{pick, flag, sum, set_of}
 use Rattle.graph.proofs.Facts.{row_at, sum_same, sum_none, sum_add, count_below}
 use Rattle.graph.proofs.Sets.{set_small}
@@ -16,9 +17,16 @@ use Rattle.table.specs.declared.Table.{Table}
 use Rattle.machine.specs.declared.State.{State}
 use Rattle.machine.specs.Steps.{available, availables, available_sets}
 
-pub sum_next : (n : ℕ) (f : ℕ → ℕ) → sum (n + 1) f ≡ sum n f + f n
+-- the sum over a list, by places
+sum_front : (n : ℕ) (f : ℕ → ℕ) → sum (suc n) f ≡ f 0 + sum n (λ k. f (suc k))
 unfolding sum
-sum_next n f = ap (λ (k : ℕ). sum k f) (add-one n)
+sum_front zero f = omega arith
+sum_front (suc n) f = let e = sum_front n f in omega (arith, e)
+
+pub sum_by_is : (f : ℕ → ℕ) (xs : List ℕ) → sum_by f xs ≡ sum (length xs) (λ k. f (get_or xs k 0))
+unfolding sum
+sum_by_is f xs =
+    sym (is_sum_by (λ (l : List ℕ). sum (length l) (λ k. f (get_or l k 0))) f refl (λ x l. sum_front (length l) (λ k. f (get_or (x ∷ l) k 0))) xs)
 
 -- ---- the digits of a set are its members
 no_ones : (ones 0 ≡ 0) × (ones 1 ≡ 1)

@@ -1,14 +1,17 @@
 -- A row's refusals in their order, as the code finds them; and the machine's part in them.
-use mathlib.Core.Path.{◌≡◌, refl, sym, ap, ap₂, ◌∙◌}
+use mathlib.Core.Path.{◌≡◌, refl, sym, subst, ap, ap₂, ◌∙◌}
 use mathlib.Core.Bool.{Bool, true, false, ◌&&◌}
 use mathlib.Core.List.{List}
-use Prim.Native.Nat.{ℕ, ◌≤◌, ◌<◌, min}
+use Prim.Native.Nat.{ℕ, ◌≤◌, min}
 use native.Mathlib.Omega.{arith}
 use lib.ListN.{length}
 use lib.Dec.{ltb, leb}
-use borrow.Author.Tests.{ltb-false}
-use Rattle.graph.specs.Words.{bit, row, lowest, lowest_or}
-use Rattle.graph.proofs.Facts.{lowest_none, lowest_or_none}
+use borrow.Author.Tests.{le-ltb}
+use Rattle.std.specs.Prelude.{is_some}
+use Rattle.std.specs.declared.option.Option.{Option}
+use Rattle.std.specs.declared.option.Option.TheVariants.{Some, None}
+use Rattle.graph.specs.Words.{bit, row, lowest_or}
+use Rattle.graph.proofs.Facts.{lowest_or_none}
 use Rattle.graph.proofs.Bits.{bit_zero}
 use Rattle.table.specs.declared.Table.{Table}
 use Rattle.machine.specs.declared.State.{State}
@@ -17,38 +20,52 @@ use Rattle.machine.specs.declared.Ticked.{Ticked}
 use Rattle.machine.specs.declared.Offer.{Offer}
 use Rattle.machine.specs.Steps.{released, availables, available_sets, left_at, offered}
 use Rattle.machine.specs.Ticking.{advance}
-use Rattle.machine.proofs.Lowest.{lowest_or_is}
+use Rattle.machine.proofs.Found.{lowest_some, lowest_no, some_of, none_of}
 use Rattle.journal.specs.Rows.{row_set, row_count, row_end, listed, is_stopped, cut_short, wrong_mark, bad_list, not_available, too_few, passes_over, choice_fault, set_fault, fault}
-use Rattle.journal.specs.Listing.{SetTested}
-use Rattle.machine.proofs.Lowest.{found, found_none}
+use Rattle.journal.specs.declared.faults.Fault.{Fault}
+use Rattle.journal.specs.declared.faults.Fault.TheVariants.{AfterMiss, CutShort, WrongMark, BadList, NoSuchTask, TooEarly, NotAvailable, TooFew, PassesOver}
+use Rattle.journal.specs.Faults.{number}
+
+-- none of the refusals' numbers is 0
+pub number_some : (f : Fault) → number f ≡ 0 → ⊥
+number_some AfterMiss h = omega arith
+number_some CutShort h = omega arith
+number_some WrongMark h = omega arith
+number_some BadList h = omega arith
+number_some NoSuchTask h = omega arith
+number_some TooEarly h = omega arith
+number_some NotAvailable h = omega arith
+number_some TooFew h = omega arith
+number_some PassesOver h = omega arith
+
+-- what holds of a row holds of the place that it was read at
+pub moved : (P : List ℕ → ℕ → Type 0) → (s z : List ℕ) (at k : ℕ) → s ≡ z → at ≡ k → P s at → P z k
+moved P s z at k e f h = let Q : ℕ → Type 0 = λ n. P z n in let R : List ℕ → Type 0 = λ l. P l at in subst Q f (subst R e h)
 
 -- ---- those of its bytes and its release set
 module _ (t : Table) (st : State) (s : List ℕ) (at : ℕ) where
-  refused_by : (n : ℕ) → 0 < n → fault t st s at ≡ n → SetTested t st s at n
-  refused_by n h e = record { refused = λ d. e; passed = λ z. absurd (omega arith); whole = λ z. absurd (omega arith) }
-
-  pub stopped_47 : is_stopped st.phase ≡ true → SetTested t st s at 47
+  pub stopped_47 : is_stopped st.phase ≡ true → fault t st s at ≡ 47
   unfolding fault
-  stopped_47 a = refused_by 47 (omega arith) (rw a refl)
+  stopped_47 a = rw a refl
 
   module _ (a : is_stopped st.phase ≡ false) where
-    pub cut_40 : cut_short s at ≡ true → SetTested t st s at 40
+    pub cut_40 : cut_short s at ≡ true → fault t st s at ≡ 40
     unfolding fault
-    cut_40 b = refused_by 40 (omega arith) (rw (a, b) refl)
+    cut_40 b = rw (a, b) refl
 
-    pub is_whole : cut_short s at ≡ false → row_end s at ≤ length s
-    unfolding cut_short
-    is_whole b = ltb-false (length s) (row_end s at) b
+    module _ (w : row_end s at ≤ length s) where
+      b : cut_short s at ≡ false
+      unfolding cut_short
+      b = le-ltb (length s) (row_end s at) w
 
-    module _ (b : cut_short s at ≡ false) where
-      pub mark_41 : wrong_mark s at ≡ true → SetTested t st s at 41
+      pub mark_41 : wrong_mark s at ≡ true → fault t st s at ≡ 41
       unfolding fault
-      mark_41 c = refused_by 41 (omega arith) (rw (a, b, c) refl)
+      mark_41 c = rw (a, b, c) refl
 
       module _ (c : wrong_mark s at ≡ false) where
-        pub list_42 : bad_list t s at ≡ true → SetTested t st s at 42
+        pub list_42 : bad_list t s at ≡ true → fault t st s at ≡ 42
         unfolding fault
-        list_42 d = refused_by 42 (omega arith) (rw (a, b, c, d) refl)
+        list_42 d = rw (a, b, c, d) refl
 
         module _ (d : bad_list t s at ≡ false) where
           to_set : fault t st s at ≡ set_fault t st s at
@@ -62,32 +79,27 @@ module _ (t : Table) (st : State) (s : List ℕ) (at : ℕ) where
           abbrev early : ℕ → ℕ → Bool
           early set i = bit set i && ltb 0 (wait st i)
 
-          module _ (r : ℕ) (e : r ≡ lowest 16 16 (above (row_set s at))) where
-            pub beyond_31 : r < 16 → SetTested t st s at 31
+          module _ (r : Option ℕ) (e : r ≡ lowest_or 16 (above (row_set s at)) Some None) where
+            pub beyond_31 : is_some r ≡ true → fault t st s at ≡ 31
             unfolding set_fault
-            beyond_31 h = refused_by 31 (omega arith) (to_set ∙ lowest_or_is 16 (above (row_set s at)) (λ i. 31) _ r (found 16 16 (above (row_set s at)) (omega arith) r e h))
+            beyond_31 h = let y = some_of r h in to_set ∙ lowest_some 16 (above (row_set s at)) (λ i. 31) _ y.0 (sym e ∙ y.1)
 
-            module _ (h : 16 ≤ r) (n_high : t.n ≤ 16) (q : ℕ) (f : q ≡ lowest 16 t.n (early (row_set s at))) where
+            module _ (h : is_some r ≡ false) (q : Option ℕ) (f : q ≡ lowest_or t.n (early (row_set s at)) Some None) where
               to_early : fault t st s at ≡ lowest_or t.n (early (row_set s at)) (λ i. 33) (choice_fault t (released t st (row_set s at)) s at)
               unfolding set_fault
-              to_early = to_set ∙ lowest_or_none 16 (above (row_set s at)) (λ i. 31) _ (found_none 16 16 (above (row_set s at)) (omega arith) r e h)
+              to_early = to_set ∙ lowest_no 16 (above (row_set s at)) (λ i. 31) _ (sym e ∙ none_of r h)
 
-              pub early_33 : q < 16 → SetTested t st s at 33
-              early_33 k = refused_by 33 (omega arith) (to_early ∙ lowest_or_is t.n (early (row_set s at)) (λ i. 33) _ q (found 16 t.n (early (row_set s at)) n_high q f k))
+              pub early_33 : is_some q ≡ true → fault t st s at ≡ 33
+              early_33 k = let y = some_of q k in to_early ∙ lowest_some t.n (early (row_set s at)) (λ i. 33) _ y.0 (sym f ∙ y.1)
 
-              pub set_passes : 16 ≤ q → SetTested t st s at 0
-              unfolding bad_list
-              set_passes k = record {
-                refused = λ z. absurd (z refl);
-                passed = λ z. to_early ∙ lowest_or_none t.n (early (row_set s at)) (λ i. 33) _ (found_none 16 t.n (early (row_set s at)) n_high q f k);
-                whole = λ z. is_whole b;
-              }
+              pub set_passes : is_some q ≡ false → fault t st s at ≡ choice_fault t (released t st (row_set s at)) s at
+              set_passes k = to_early ∙ lowest_no t.n (early (row_set s at)) (λ i. 33) _ (sym f ∙ none_of q k)
 
           -- no task is named
-          pub none_named : t.n ≤ 16 → row_set s at ≡ 0 → SetTested t st s at 0
-          none_named h z = set_passes
-              16 (sym (lowest_none 16 16 _ (λ i b. off i (leb t.n i)))) (omega arith) h
-              16 (sym (lowest_none 16 t.n _ (λ i b. off i (ltb 0 (wait st i))))) (omega arith)
+          pub none_named : row_set s at ≡ 0 → fault t st s at ≡ choice_fault t (released t st (row_set s at)) s at
+          none_named z = set_passes
+              None (sym (lowest_or_none 16 (above (row_set s at)) Some None (λ i b. off i (leb t.n i)))) refl
+              None (sym (lowest_or_none t.n (early (row_set s at)) Some None (λ i b. off i (ltb 0 (wait st i))))) refl
             where
               off : (i : ℕ) (b : Bool) → bit (row_set s at) i && b ≡ false
               off i b = ap (λ (x : ℕ). bit x i && b) z ∙ ap (λ (x : Bool). x && b) (bit_zero i)

@@ -1,12 +1,11 @@
 -- How the code judges a row, for the contracts of its parts: each slot, 16 times age place plus task, has a set of vertices as sixteen bits. And judging
 -- a piece.
-use Rattle.std.specs.Prelude.{◌≡◌, Bool, ◌&&◌, ◌||◌, not, List, ℕ, ◌+◌, ◌*◌, ◌≤◌, ◌<◌, length, get_or, ltb}
+use Rattle.std.specs.Prelude.{◌≡◌, Bool, ◌&&◌, ◌||◌, not, List, ℕ, ◌+◌, ◌*◌, ◌≤◌, ◌<◌, get_or, ltb}
 use Rattle.graph.specs.Words.{pick, bit, all, is_in}
 use Rattle.table.specs.declared.Table.{Table}
 use Rattle.machine.specs.declared.State.{State}
-use Rattle.machine.specs.Steps.{released}
 use Rattle.journal.specs.declared.Progress.{Progress}
-use Rattle.journal.specs.Rows.{row_set, row_count, row_task, row_age, row_vertex, row_end, choice_fault, fault}
+use Rattle.journal.specs.Rows.{row_count, row_task, row_age, row_vertex}
 use Rattle.journal.specs.Judging.{judge_rows, start}
 
 -- a triple is a vertex in its slot's set
@@ -30,12 +29,6 @@ unfoldable pub Without : List ℕ → List ℕ → List ℕ → Type 0
 Without sets chosen rest =
     (i p u : ℕ) → i < 16 → p < 4 → u < 16
     → bit (get_or rest (16 * p + i) 0) u ≡ (bit (get_or sets (16 * p + i) 0) u && not (is_in (64 * i + 16 * p + u) chosen))
-
--- n is the first refusal of a row's bytes and its release set; where it is 0 the row is whole, and its choice decides
-pub record SetTested (t : Table) (st : State) (s : List ℕ) (at n : ℕ) : Type 0 where
-  pub refused : (n ≡ 0 → ⊥) → fault t st s at ≡ n
-  pub passed : n ≡ 0 → fault t st s at ≡ choice_fault t (released t st (row_set s at)) s at
-  pub whole : n ≡ 0 → row_end s at ≤ length s
 
 -- "m 1 to 8, n 1 to 16": a table that is above either, or not
 unfoldable pub too_wide : Table → Bool

@@ -1,129 +1,128 @@
-// A row's fields and the tests of its bytes: document 02, M-100. The definitions are in specs/Rows.antt.
-ghost use Rattle.std.specs.Prelude.{◌≡◌, ◌||◌, not, ◌+◌, ◌*◌, ◌≤◌, ◌<◌, length, ltb};
-ghost use Rattle.journal.specs.Rows.{row_set, row_count, row_task, row_age, row_vertex, row_end, row_triple, cut_short, wrong_mark, ascending};
+// A row that is whole, and its fields: document 02, M-100. The definitions are in specs/Rows.antt.
+#![tactic(auto, unfolding(crate::specs::Rows::row_set, crate::specs::Rows::row_count, crate::specs::Rows::row_task, crate::specs::Rows::row_age, crate::specs::Rows::row_vertex, crate::specs::Rows::row_key, crate::specs::Rows::row_end, crate::specs::Rows::row_triple, crate::specs::Rows::cut_short, crate::specs::Rows::wrong_mark, crate::specs::Listing::row_slot))]
 
-// A byte as an index, with its bound.
-fn wide(x: u8) -> usize
-    ensures { (result ≡ x) × (result < 256) }
-{
-    x as usize
+ghost use Rattle.std.specs.Prelude.{◌≡◌, true, ◌||◌, not, ◌-◌, ◌≤◌, ◌<◌, length, ltb, MatchOption};
+ghost use Rattle.journal.specs.Rows.{row_set, row_count, row_task, row_age, row_vertex, row_key, row_end, row_triple, cut_short, wrong_mark, ascending};
+
+// The row that begins at place `at` of a journal. No byte of it lies past the end.
+#[derive(Clone, Copy)]
+pub(crate) struct Row<'a> {
+    bytes: &'a [u8],
+    at: usize,
+    ghost whole: { row_end bytes.now at ≤ length bytes.now },
 }
 
-// 40: some byte of the row at a place, which may be past the end, lies past the end.
-pub(crate) fn is_cut(bytes: &[u8], at: usize) -> bool
-    ensures { result ≡ cut_short bytes.now at }
-{
-    let n = bytes.len();
-    if n < at {
-        return true;
-    }
-    let rest = n - at;
-    if rest < 5 {
-        return true;
-    }
-    let count = wide(bytes[at + 4]);
-    let needed = 5 + 3 * count;
-    rest < needed
-}
+impl<'a> Row<'a> {
+    ghost use Rattle.journal.specs.Listing.{row_slot};
 
-// 41.
-pub(crate) fn is_unmarked(bytes: &[u8], at: usize) -> bool
-    requires { at + 5 ≤ length bytes.now }
-    ensures { result ≡ wrong_mark bytes.now at }
-{
-    if bytes[at] != 0x4A {
-        return true;
-    }
-    bytes[at + 1] != 0x52
-}
-
-// The release set.
-pub(crate) fn set_at(bytes: &[u8], at: usize) -> u16
-    requires { at + 5 ≤ length bytes.now }
-    ensures { result ≡ row_set bytes.now at }
-{
-    let low = wide(bytes[at + 2]);
-    let high = wide(bytes[at + 3]);
-    (low + 256 * high) as u16
-}
-
-// The run count.
-pub(crate) fn count_at(bytes: &[u8], at: usize) -> usize
-    requires { at + 5 ≤ length bytes.now }
-    ensures { (result ≡ row_count bytes.now at) × (result < 256) }
-{
-    wide(bytes[at + 4])
-}
-
-// The place after the row.
-pub(crate) fn end_at(bytes: &[u8], at: usize) -> usize
-    requires { row_end bytes.now at ≤ length bytes.now }
-    ensures { result ≡ row_end bytes.now at }
-{
-    at + 5 + 3 * count_at(bytes, at)
-}
-
-// The task of triple j.
-pub(crate) fn task_at(bytes: &[u8], at: usize, j: usize) -> usize
-    requires { at + 5 + 3 * j + 3 ≤ length bytes.now }
-    ensures { (result ≡ row_task bytes.now at j) × (result < 256) }
-{
-    wide(bytes[at + 5 + 3 * j])
-}
-
-// Its age place.
-pub(crate) fn age_at(bytes: &[u8], at: usize, j: usize) -> usize
-    requires { at + 5 + 3 * j + 3 ≤ length bytes.now }
-    ensures { (result ≡ row_age bytes.now at j) × (result < 256) }
-{
-    wide(bytes[at + 6 + 3 * j])
-}
-
-// Its vertex.
-pub(crate) fn vertex_at(bytes: &[u8], at: usize, j: usize) -> usize
-    requires { at + 5 + 3 * j + 3 ≤ length bytes.now }
-    ensures { (result ≡ row_vertex bytes.now at j) × (result < 256) }
-{
-    wide(bytes[at + 7 + 3 * j])
-}
-
-// Triple j as one number, by which triples ascend.
-fn triple_at(bytes: &[u8], at: usize, j: usize) -> usize
-    requires { at + 5 + 3 * j + 3 ≤ length bytes.now }
-    ensures { result ≡ row_triple bytes.now at j }
-{
-    let i = task_at(bytes, at, j);
-    let p = age_at(bytes, at, j);
-    let u = vertex_at(bytes, at, j);
-    65536 * i + 256 * p + u
-}
-
-// Whether the triples ascend strictly.
-fn ascends(bytes: &[u8], at: usize) -> bool
-    requires { row_end bytes.now at ≤ length bytes.now }
-    ensures { result ≡ ascending bytes.now at }
-{
-    let count = count_at(bytes, at);
-    let mut j: usize = 0;
-    while j + 1 < count {
-        let here = triple_at(bytes, at, j);
-        let next = triple_at(bytes, at, j + 1);
-        if next <= here {
-            return false;
+    // The row at a place, which may be past the end; none, 40, if it is cut short.
+    pub(crate) fn read(bytes: &'a [u8], at: usize) -> Option<Row<'a>>
+        ensures { MatchOption result (cut_short bytes.now at ≡ true) (λ row. (row.bytes.now ≡ bytes.now) × (row.at ≡ at)) }
+    {
+        let rest = bytes.get(at..)?;
+        let count = usize::from(*rest.get(4)?);
+        if rest.len() < 5 + 3 * count {
+            return None;
         }
-        j += 1;
+        Some(Row { bytes, at })
     }
-    true
-}
 
-// 42, for m processors.
-pub(crate) fn is_bad_list(m: u8, bytes: &[u8], at: usize) -> bool
-    requires { row_end bytes.now at ≤ length bytes.now }
-    ensures { result ≡ (ltb m (row_count bytes.now at) || not (ascending bytes.now at)) }
-{
-    let most = m as usize;
-    if most < count_at(bytes, at) {
-        return true;
+    // 41.
+    pub(crate) fn is_unmarked(&self) -> bool
+        ensures { result ≡ wrong_mark self.now.bytes.now self.now.at }
+    {
+        self.bytes[self.at] != 0x4A || self.bytes[self.at + 1] != 0x52
     }
-    !ascends(bytes, at)
+
+    // The release set.
+    pub(crate) fn set(&self) -> u16
+        ensures { result ≡ row_set self.now.bytes.now self.now.at }
+    {
+        u16::from_le_bytes([self.bytes[self.at + 2], self.bytes[self.at + 3]])
+    }
+
+    // The run count.
+    pub(crate) fn count(&self) -> usize
+        ensures value { result ≡ row_count self.now.bytes.now self.now.at }
+        ensures bound { result < 256 }
+    {
+        usize::from(self.bytes[self.at + 4])
+    }
+
+    // The place after the row.
+    pub(crate) fn end(&self) -> usize
+        ensures { result ≡ row_end self.now.bytes.now self.now.at }
+    {
+        self.at + 5 + 3 * self.count()
+    }
+
+    // The task of triple j.
+    pub(crate) fn task(&self, j: usize) -> usize
+        requires { j < row_count self.now.bytes.now self.now.at }
+        ensures value { result ≡ row_task self.now.bytes.now self.now.at j }
+        ensures bound { result < 256 }
+    {
+        usize::from(self.bytes[self.at + 5 + 3 * j])
+    }
+
+    // Its age place.
+    pub(crate) fn age(&self, j: usize) -> usize
+        requires { j < row_count self.now.bytes.now self.now.at }
+        ensures value { result ≡ row_age self.now.bytes.now self.now.at j }
+        ensures bound { result < 256 }
+    {
+        usize::from(self.bytes[self.at + 6 + 3 * j])
+    }
+
+    // Its vertex.
+    pub(crate) fn vertex(&self, j: usize) -> usize
+        requires { j < row_count self.now.bytes.now self.now.at }
+        ensures value { result ≡ row_vertex self.now.bytes.now self.now.at j }
+        ensures bound { result < 256 }
+    {
+        usize::from(self.bytes[self.at + 7 + 3 * j])
+    }
+
+    // The slot of triple j: 16 times age place plus task.
+    pub(crate) fn slot(&self, j: usize) -> usize
+        requires { j < row_count self.now.bytes.now self.now.at }
+        ensures { result ≡ row_slot self.now.bytes.now self.now.at j }
+    {
+        16 * self.age(j) + self.task(j)
+    }
+
+    // The number of triple j's vertex in a choice.
+    pub(crate) fn key(&self, j: usize) -> u16
+        requires { j < row_count self.now.bytes.now self.now.at }
+        ensures { result ≡ row_key self.now.bytes.now self.now.at j }
+    {
+        (64 * self.task(j) + 16 * self.age(j) + self.vertex(j)) as u16
+    }
+
+    // Triple j as one number, by which triples ascend.
+    fn triple(&self, j: usize) -> usize
+        requires { j < row_count self.now.bytes.now self.now.at }
+        ensures { result ≡ row_triple self.now.bytes.now self.now.at j }
+    {
+        65536 * self.task(j) + 256 * self.age(j) + self.vertex(j)
+    }
+
+    // Whether the triples ascend strictly.
+    fn ascends(&self) -> bool
+        ensures { result ≡ ascending self.now.bytes.now self.now.at }
+    {
+        for j in 0..self.count().saturating_sub(1) {
+            if self.triple(j + 1) <= self.triple(j) {
+                return false;
+            }
+        }
+        true
+    }
+
+    // 42, for m processors.
+    pub(crate) fn is_bad_list(&self, m: u8) -> bool
+        ensures { result ≡ (ltb m (row_count self.now.bytes.now self.now.at) || not (ascending self.now.bytes.now self.now.at)) }
+    {
+        usize::from(m) < self.count() || !self.ascends()
+    }
 }

@@ -1,6 +1,7 @@
 // The judge's answers. The definitions are in specs/, what they mean in proofs/.
 #![tactic(auto)]
 
+mod faults;
 mod fields;
 mod lists;
 mod walk;

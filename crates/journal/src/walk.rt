@@ -1,100 +1,95 @@
 // Judging row by row: document 02, M-100. The definitions are in specs/Judging.antt.
-ghost use Rattle.std.specs.Prelude.{◌≡◌, ℕ, ◌≤◌, length};
+ghost use Rattle.std.specs.Prelude.{◌≡◌, ℕ, length, IsOk, IfOk, IfErr};
 ghost use Rattle.table.specs.declared.Table.{Table};
 ghost use Rattle.machine.specs.declared.State.{State};
 ghost use Rattle.machine.specs.Steps.{released, offered};
 ghost use Rattle.machine.specs.Ticking.{advance};
-ghost use Rattle.journal.specs.Rows.{row_set, row_end, listed, is_stopped, choice_fault, fault};
-ghost use Rattle.journal.specs.Listing.{SetTested, too_wide, Narrow, judge_piece};
+ghost use Rattle.journal.specs.Rows.{row_set, listed, is_stopped, choice_fault, fault};
+ghost use Rattle.journal.specs.Faults.{number, outcome};
+ghost use Rattle.journal.specs.Listing.{too_wide, Narrow, judge_piece};
 ghost use Rattle.journal.specs.Judging.{judge_rows, start, ruling, unread, judge};
 
-use crate::{Progress, Ruling, fields, lists};
+use crate::faults::Fault;
+use crate::fields::Row;
+use crate::{Progress, Ruling, lists};
 use machine::{Offer, Phase, State};
 use table::{Outcome, Table};
 
-// 47: the row before left the machine stopped.
+// Whether a machine is stopped, as a miss leaves it.
 fn is_stopped(phase: Phase) -> bool
     ensures { result ≡ is_stopped phase }
 {
-    match phase {
-        Phase::Running => false,
-        Phase::Stopped(_) => true,
-    }
+    matches!(phase, Phase::Stopped(_))
 }
 
-// The refusals of a row's bytes and of its release set, in order; 0 if there is none.
-fn set_fault(t: Table, st: State, bytes: &[u8], at: usize) -> u8
+// The row at a place, once the refusals of its bytes and of its release set are past, in order.
+fn checked_row<'a>(t: Table, st: State, bytes: &'a [u8], at: usize) -> Result<Row<'a>, Fault>
     requires { Narrow t }
-    ensures { SetTested t st bytes.now at result }
+    ensures row { IfOk result (λ row. (row.bytes.now ≡ bytes.now) × (row.at ≡ at)) }
+    ensures passed { IsOk result → fault t st bytes.now at ≡ choice_fault t (released t st (row_set bytes.now at)) bytes.now at }
+    ensures refused { IfErr result (λ f. fault t st bytes.now at ≡ number f) }
 {
-    let phase = st.phase;
-    if is_stopped(phase) {
-        return 47;
+    if is_stopped(st.phase) {
+        return Err(Fault::AfterMiss);
     }
-    if fields::is_cut(bytes, at) {
-        return 40;
+    let Some(row) = Row::read(bytes, at) else {
+        return Err(Fault::CutShort);
+    };
+    if row.is_unmarked() {
+        return Err(Fault::WrongMark);
     }
-    if fields::is_unmarked(bytes, at) {
-        return 41;
+    if row.is_bad_list(t.m) {
+        return Err(Fault::BadList);
     }
-    if fields::is_bad_list(t.m, bytes, at) {
-        return 42;
-    }
-    let set = fields::set_at(bytes, at);
+    let set = row.set();
     // Most rows name no task.
     if set == 0 {
-        return 0;
+        return Ok(row);
     }
-    if machine::first_beyond(set, t.n) < 16 {
-        return 31;
+    if machine::first_beyond(set, t.n).is_some() {
+        return Err(Fault::NoSuchTask);
     }
-    if machine::first_early(set, t.n, st) < 16 {
-        return 33;
+    if machine::first_early(set, t.n, st).is_some() {
+        return Err(Fault::TooEarly);
     }
-    0
+    Ok(row)
 }
 
-// The refusals of a row's choice, in order; 0 if there is none. The offer is that of its release set.
-fn choice_fault(m: u8, offer: Offer, bytes: &[u8], at: usize) -> u8
-    requires { row_end bytes.now at ≤ length bytes.now }
-    ensures { (t : Table) (st : State) (set : ℕ) → m ≡ t.m → offer ≡ offered t st set → result ≡ choice_fault t (released t st set) bytes.now at }
+// The refusals of a row's choice, in order. The offer is that of its release set.
+fn check_choice(m: u8, offer: Offer, row: &Row) -> Result<(), Fault>
+    ensures { (t : Table) (st : State) (set : ℕ) → m ≡ t.m → offer ≡ offered t st set → outcome result ≡ choice_fault t (released t st set) row.now.bytes.now row.now.at }
 {
-    let sets = offer.sets;
-    if !lists::are_in(sets, bytes, at) {
-        return 44;
+    if !lists::are_in(offer.sets, row) {
+        return Err(Fault::NotAvailable);
     }
-    if lists::is_few(fields::count_at(bytes, at), m, sets) {
-        return 45;
+    if lists::is_few(row.count(), m, offer.sets) {
+        return Err(Fault::TooFew);
     }
-    let ticks = offer.left;
-    if lists::is_passing_over(sets, ticks, bytes, at) {
-        return 46;
+    if lists::is_passing_over(offer.sets, offer.left, row) {
+        return Err(Fault::PassesOver);
     }
-    0
+    Ok(())
 }
 
-// A row's refusal, 0 if there is none.
-fn fault(t: Table, st: State, bytes: &[u8], at: usize) -> u8
+// The row at a place, if it is not refused.
+fn legal_row<'a>(t: Table, st: State, bytes: &'a [u8], at: usize) -> Result<Row<'a>, Fault>
     requires { Narrow t }
-    ensures { result ≡ fault t st bytes.now at }
+    ensures row { IfOk result (λ row. (row.bytes.now ≡ bytes.now) × (row.at ≡ at)) }
+    ensures number { outcome result ≡ fault t st bytes.now at }
 {
-    let early = set_fault(t, st, bytes, at);
-    if early != 0 {
-        return early;
-    }
-    let set = fields::set_at(bytes, at);
-    let offer = machine::offered(t, st, set);
-    choice_fault(t.m, offer, bytes, at)
+    let row = checked_row(t, st, bytes, at)?;
+    let offer = machine::offered(t, st, row.set());
+    check_choice(t.m, offer, &row)?;
+    Ok(row)
 }
 
 // The machine after a row that is not refused: its tick with what the row lists.
-fn state_after(t: Table, st: State, bytes: &[u8], at: usize) -> State
-    requires { Narrow t × (fault t st bytes.now at ≡ 0) }
-    ensures { result ≡ (advance t st (row_set bytes.now at) (listed bytes.now at)).state }
+fn state_after(t: Table, st: State, row: &Row) -> State
+    requires narrow { Narrow t }
+    requires legal { fault t st row.now.bytes.now row.now.at ≡ 0 }
+    ensures { result ≡ (advance t st (row_set row.now.bytes.now row.now.at) (listed row.now.bytes.now row.now.at)).state }
 {
-    let set = fields::set_at(bytes, at);
-    let chosen = lists::chosen_at(bytes, at);
-    machine::advance(t, st, set, chosen).state
+    machine::advance(t, st, row.set(), lists::chosen(row)).state
 }
 
 // The rows that begin before place `end`, from a state on, until one is refused; for this one nothing moves.
@@ -105,26 +100,29 @@ fn judge_rows(t: Table, bytes: &[u8], end: usize, st: State) -> Progress
     let mut state = st;
     let mut next: usize = 0;
     let mut rows: usize = 0;
+    // A row's length is in its bytes, so no iterator is plainer.
     while next < end {
-        let number = fault(t, state, bytes, next);
-        if number != 0 {
-            return Progress {
-                number: number,
-                next: next,
-                rows: rows,
-                state: state,
-            };
-        }
-        let after = state_after(t, state, bytes, next);
-        state = after;
-        next = fields::end_at(bytes, next);
+        let row = match legal_row(t, state, bytes, next) {
+            Ok(row) => row,
+            Err(fault) => {
+                let number = fault.number();
+                return Progress {
+                    number,
+                    next,
+                    rows,
+                    state,
+                };
+            }
+        };
+        state = state_after(t, state, &row);
+        next = row.end();
         rows += 1;
     }
     Progress {
         number: 0,
-        next: next,
-        rows: rows,
-        state: state,
+        next,
+        rows,
+        state,
     }
 }
 
@@ -133,22 +131,21 @@ pub fn rule(p: Progress) -> Ruling
     ensures { result ≡ ruling p }
 {
     if p.number == 0 {
-        let st = p.state;
-        let phase = st.phase;
-        return Ruling {
+        Ruling {
             number: 0,
             place: 0,
             row: 0,
             rows: p.rows,
-            missed: is_stopped(phase),
-        };
-    }
-    Ruling {
-        number: p.number,
-        place: 0,
-        row: p.rows,
-        rows: 0,
-        missed: false,
+            missed: is_stopped(p.state.phase),
+        }
+    } else {
+        Ruling {
+            number: p.number,
+            place: 0,
+            row: p.rows,
+            rows: 0,
+            missed: false,
+        }
     }
 }
 
@@ -169,10 +166,7 @@ pub fn unreadable(o: Outcome) -> Ruling
 fn is_too_wide(t: Table) -> bool
     ensures { result ≡ too_wide t }
 {
-    if 8 < t.m {
-        return true;
-    }
-    16 < t.n
+    8 < t.m || 16 < t.n
 }
 
 // Judges a piece of a journal, so that a buffer of some size is enough for any length.

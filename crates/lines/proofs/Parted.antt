@@ -1,17 +1,19 @@
 -- Parts of a line: what a test leaves of a text, a dash for nothing, one vertex behind another.
 use mathlib.Core.Path.{◌≡◌, refl, sym, ap, ◌∙◌}
+use mathlib.Core.Bool.{Bool, true, false}
 use mathlib.Core.List.{List, [], ◌∷◌, ◌++◌, append-nil, append_assoc}
 use Prim.Native.Nat.{ℕ, ◌+◌, ◌/◌, ◌%◌, ◌^◌, ◌≤◌, ◌<◌}
 use native.Mathlib.Omega.{arith}
 use native.Mathlib.Numerals.{add-one}
-use lib.Dec.{eqb}
+use lib.Dec.{eqb, ltb}
 use lib.ListN.{length, get_or, take}
 use lib.Seq.{take-suc, take_all}
-use borrow.Author.Tests.{eq-eqb, ne_eqb}
-use Rattle.graph.specs.Words.{pick, bit, in_order}
+use borrow.Author.Tests.{eq-eqb, ne_eqb, ltb-true, ltb-false}
+use Rattle.graph.specs.Words.{pick, bit}
 use Rattle.text.specs.Text.{text, decimal}
-use Rattle.text.specs.Laid.{Put}
-use Rattle.text.proofs.Putting.{put_then, put_same, one_more_lem}
+use Rattle.text.specs.declared.page.Page.{Page}
+use Rattle.text.specs.Page.{Adds}
+use Rattle.text.proofs.Pages.{then, same, still}
 use Rattle.machine.specs.declared.Triple.{Triple}
 use Rattle.machine.specs.declared.Reply.{Reply}
 use Rattle.machine.specs.declared.Answer.{Answer}
@@ -24,14 +26,15 @@ said n k x y e = rw (eq-eqb n k e)
 pub said_not : (n k : ℕ) (x y : List ℕ) → (n ≡ k → ⊥) → y ≡ pick (eqb n k) x y
 said_not n k x y e = rw (ne_eqb n k e)
 
--- a slot is in a set, or is not
-pub in_set_lem : (set c slot : ℕ) (l : List ℕ) → slot ≡ slot_in c → set / 2 ^ slot % 2 ≡ 1 → l ≡ pick (bit set (slot_in c)) l []
-unfolding bit
-in_set_lem set c slot l e h = said (set / 2 ^ slot % 2) 1 l [] h ∙ ap (λ (k : ℕ). pick (bit set k) l []) e
+-- ---- a job whose slot is in the set of those that are live, or is not
+module _ (live : ℕ) (work : List ℕ) (c slot : ℕ) (e : slot ≡ slot_in c) where
+  pub work_shown : live / 2 ^ slot % 2 ≡ 1 → text " " ++ decimal (c / 4) ++ ((text "." ++ decimal (c % 4)) ++ (text ":" ++ decimal (get_or work slot 0))) ≡ work_in live work c
+  unfolding work_in bit
+  work_shown h = rw (← e, eq-eqb (live / 2 ^ slot % 2) 1 h) (simp append_assoc)
 
-pub not_in_set : (set c slot : ℕ) (l : List ℕ) → slot ≡ slot_in c → (set / 2 ^ slot % 2 ≡ 1 → ⊥) → [] ≡ pick (bit set (slot_in c)) l []
-unfolding bit
-not_in_set set c slot l e h = said_not (set / 2 ^ slot % 2) 1 l [] h ∙ ap (λ (k : ℕ). pick (bit set k) l []) e
+  pub work_hidden : (live / 2 ^ slot % 2 ≡ 1 → ⊥) → [] ≡ work_in live work c
+  unfolding work_in bit
+  work_hidden h = rw (← e, ne_eqb (live / 2 ^ slot % 2) 1 h)
 
 -- ---- a vertex, a refusal, an answer, by what is tested of them
 pub vertex_none : (p : Triple) → p.task ≡ 255 → [] ≡ vertex_text p
@@ -65,22 +68,20 @@ module _ (a : Answer) (live : ℕ) (work : List ℕ) where
   unfolding answer_text
   answer_refused e f = rw (ne_eqb a.reply.number 0 e, ne_eqb a.reply.number 34 f)
 
--- ---- a dash where nothing was put
-dashed : (l : List ℕ) (at p : ℕ) → p ≡ at + length l → l ++ pick (eqb p at) (text " -") [] ≡ or_dash l
+-- ---- a dash where nothing was put: one is put too where the page was full before, and is cut off
+pub dashed : {n : ℕ} {a b c : Page n} (l : List ℕ) → Adds a b l → Adds b c (pick (eqb b.len a.len) (text " -") []) → Adds a c (or_dash l)
 unfolding or_dash
-dashed [] at p e = let q : p ≡ at = omega arith in rw (eq-eqb p at q)
-dashed (b ∷ l) at p e = let q : p ≡ at → ⊥ = λ (r : p ≡ at). omega arith in rw (ne_eqb p at q) (append-nil (b ∷ l))
-
-pub put_dash : {buf l mid after : List ℕ} {at p next : ℕ} → Put buf at l mid p → Put mid p (pick (eqb p at) (text " -") []) after next → Put buf at (or_dash l) after next
-put_dash {l = l} {at = at} {p = p} a b = put_same (put_then a b) (dashed l at p a.behind)
-
--- ---- job after job
-pub one_work : (live : ℕ) (work : List ℕ) (c slot : ℕ) → slot ≡ slot_in c
-    → in_order c (work_in live work) ++ pick (bit live (slot_in c)) (text " " ++ decimal (c / 4) ++ text "." ++ decimal (c % 4) ++ text ":" ++ decimal (get_or work slot 0)) [] ≡ in_order (c + 1) (work_in live work)
-unfolding work_in
-one_work live work c slot e =
-    ap (λ (k : ℕ). in_order c (work_in live work) ++ pick (bit live (slot_in c)) (text " " ++ decimal (c / 4) ++ text "." ++ decimal (c % 4) ++ text ":" ++ decimal (get_or work k 0)) []) e
-    ∙ one_more_lem c (work_in live work)
+dashed {n} {a} {b} {c} [] x y =
+    let q : b.len ≡ a.len = omega (arith, x.len) in
+    same (then x y) (rw (eq-eqb b.len a.len q))
+dashed {n} {a} {b} {c} (d ∷ l) x y = go (ltb a.len (length a.bytes)) refl
+  where
+    go : (t : Bool) → ltb a.len (length a.bytes) ≡ t → Adds a c (d ∷ l)
+    go true e =
+        let h = ltb-true a.len (length a.bytes) e in
+        let q : b.len ≡ a.len → ⊥ = λ (r : b.len ≡ a.len). omega (arith, x.len) in
+        same (then x y) (rw (ne_eqb b.len a.len q) (append-nil (d ∷ l)))
+    go false e = still x y (ltb-false a.len (length a.bytes) e)
 
 -- ---- vertex after vertex
 -- those of one list, then those of another

@@ -5,16 +5,13 @@ use mathlib.Core.List.{List, [], ◌++◌, append_assoc}
 use Prim.Native.Nat.{ℕ, ◌≤◌, ◌<◌}
 use native.Mathlib.Omega.{arith}
 use lib.Dec.{eqb, leb}
-use lib.ListN.{length, replicate, length-append}
+use lib.ListN.{length, length-append}
 use borrow.Author.Tests.{eq-eqb, ne_eqb, le-leb, lt-leb}
 use Rattle.graph.specs.Words.{pick}
 use Rattle.text.specs.Text.{text, newline, decimal}
-use Rattle.text.specs.Laid.{Put}
 use Rattle.text.proofs.Decimal.{decimal_length}
 use Rattle.journal.specs.declared.Ruling.{Ruling}
-use Rattle.lines.specs.Lines.{line_of}
 use Rattle.lines.specs.Rulings.{legal_line, unread_line, refused_line, ruling_line}
-use Rattle.lines.proofs.Lined.{line_put}
 
 -- ---- by what is tested
 pub if_so : (b : Bool) (x y : List ℕ) → b ≡ true → x ≡ pick b x y
@@ -67,6 +64,3 @@ module _ (r : Ruling) where
       go true c = legal_most
       go false true = unread_most
       go false false = refused_most
-
-  pub ruling_put : (after : List ℕ) (next : ℕ) → Put (replicate 2048 0) 0 (ruling_line r) after next → (record { bytes = after; len = next }) ≡ line_of (ruling_line r)
-  ruling_put after next = line_put (ruling_line r) after next (omega (arith, ruling_most))

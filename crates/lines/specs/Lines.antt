@@ -1,6 +1,6 @@
 -- The lines that show a table run, as bytes: "one line each (ending in byte 10), fields parted by one space". Documents 01 and 02 have no
 -- such lines: what is quoted here and in Watching.antt is their own form.
-use Rattle.std.specs.Prelude.{List, [], ◌∷◌, ◌++◌, ℕ, ◌+◌, ◌*◌, ◌-◌, ◌/◌, ◌%◌, eqb, length, get_or, replicate}
+use Rattle.std.specs.Prelude.{List, [], ◌∷◌, ◌++◌, ℕ, ◌+◌, ◌*◌, ◌/◌, ◌%◌, eqb, get_or}
 use Rattle.graph.specs.Words.{pick, bit, in_order}
 use Rattle.text.specs.Text.{text, newline, decimal}
 use Rattle.table.specs.declared.Outcome.{Outcome}
@@ -11,7 +11,8 @@ use Rattle.table.specs.Reading.{when_read, read}
 use Rattle.machine.specs.declared.Reply.{Reply}
 use Rattle.machine.specs.declared.Triple.{Triple}
 use Rattle.machine.specs.declared.Answer.{Answer}
-use Rattle.lines.specs.declared.Line.{Line}
+use Rattle.text.specs.declared.page.Page.{Page}
+use Rattle.text.specs.Page.{written}
 
 -- OPENING. "refuse NUMBER at PLACE": reading's
 unfoldable pub refuse_line : Outcome → List ℕ
@@ -83,5 +84,5 @@ unfoldable pub tick_line : ℕ → ℕ → Answer → ℕ → List ℕ → List 
 tick_line clock named a live work = text "tick " ++ decimal clock ++ text " release" ++ numbers_in named ++ answer_text a live work ++ newline
 
 -- A LINE IN MEMORY: at the front of 2,048 bytes, with zeros behind it, and its length (`open_most`, `tick_most`, proofs/Length.antt)
-unfoldable pub line_of : List ℕ → Line
-line_of l = record { bytes = l ++ replicate (2048 - length l) 0; len = length l }
+unfoldable pub line_of : List ℕ → Page 2048
+line_of = written 2048

@@ -14,11 +14,7 @@ pub use showing::{clock_of, set_of, show_opening, show_tick};
 pub use ticking::tick_line;
 
 // A line's text, at the front of its bytes, and how long it is.
-#[derive(Clone, Copy)]
-pub struct Line {
-    pub bytes: [u8; 2048],
-    pub len: usize,
-}
+pub type Line = text::Page<2048>;
 
 // A step: its line, the answer's number, and the state to go on from.
 #[derive(Clone, Copy)]

@@ -1,53 +1,48 @@
 // The first line: what opening says of a table.
 ghost use Rattle.std.specs.Prelude.{◌≡◌};
-ghost use Rattle.text.specs.Laid.{Put};
+ghost use Rattle.text.specs.Page.{Adds};
 ghost use Rattle.lines.specs.Lines.{refuse_line, opened_line, open_line, line_of};
 
-use crate::{Line, parts};
+use crate::Line;
 use table::{Outcome, Table};
+use text::Page;
 
 // A table that reading refuses.
-fn refuse_line(out: &mut [u8], o: Outcome) -> usize
-    ensures { Put out.old 0 (refuse_line o) out.new result }
+fn refuse_line(page: &mut Line, o: Outcome)
+    ensures { Adds page.old page.new (refuse_line o) }
 {
-    let number = table::number(o);
-    let place = table::place(o);
-    let p = parts::labelled(&mut *out, 0, b"refuse ", number as u64);
-    let q = parts::labelled(&mut *out, p, b" at ", place as u64);
-    parts::ended(&mut *out, q)
+    page.labelled(b"refuse ", u64::from(table::number(o)));
+    page.labelled(b" at ", table::place(o) as u64);
+    page.end_line();
 }
 
 // A table that is read.
-fn opened_line(out: &mut [u8], clock: u32, t: Table) -> usize
-    ensures { Put out.old 0 (opened_line clock t) out.new result }
+fn opened_line(page: &mut Line, clock: u32, t: Table)
+    ensures { Adds page.old page.new (opened_line clock t) }
 {
-    let p = parts::labelled(&mut *out, 0, b"open ", clock as u64);
-    let q = parts::labelled(&mut *out, p, b" processors ", t.m as u64);
-    let r = parts::labelled(&mut *out, q, b" tasks ", t.n as u64);
-    parts::ended(&mut *out, r)
+    page.labelled(b"open ", u64::from(clock));
+    page.labelled(b" processors ", u64::from(t.m));
+    page.labelled(b" tasks ", u64::from(t.n));
+    page.end_line();
 }
 
 // Either of them.
-fn first_line(bytes: &[u8], out: &mut [u8], clock: u32) -> usize
-    ensures { Put out.old 0 (open_line bytes.now clock) out.new result }
+fn first_line(page: &mut Line, bytes: &[u8], clock: u32)
+    ensures { Adds page.old page.new (open_line bytes.now clock) }
 {
     let l = table::read(bytes);
     let o = l.outcome;
     let Outcome::Read = o else {
-        return refuse_line(&mut *out, o);
+        return refuse_line(page, o);
     };
-    let t = l.table;
-    opened_line(&mut *out, clock, t)
+    opened_line(page, clock, l.table);
 }
 
 // The line of opening a table at a clock.
 pub fn open_line(bytes: &[u8], clock: u32) -> Line
     ensures { result ≡ line_of (open_line bytes.now clock) }
 {
-    let mut out = [0u8; 2048];
-    let len = first_line(bytes, &mut out, clock);
-    Line {
-        bytes: out,
-        len: len,
-    }
+    let mut page = Page::new();
+    first_line(&mut page, bytes, clock);
+    page
 }

@@ -1,8 +1,11 @@
 -- Closing a gap: the slots of a set of tasks; the source of a slot, which is the slot whose job comes to stand there; and sixteen numbers that are moved from
 -- one slot to another. The source is found by counting those that go on: the q-th of them is the one below which q go on.
-use Rattle.std.proofs.Common.{◌≡◌, ℕ, zero, suc, ◌+◌, ◌-◌, ◌*◌, ◌/◌, ◌%◌, ◌^◌, ◌<◌, ◌≤◌, Bool, true, false, eqb, ltb, List, ◌∷◌, length, get_or, set, sym, refl, ap, ◌∙◌, add-zero, zero-add, arith, length-set, get_or-set_other, get_or-set_same, le-ltb, lt-ltb, eq-eqb, ne_eqb}
+use Rattle.std.proofs.Common.{◌≡◌, ℕ, zero, suc, ◌+◌, ◌-◌, ◌*◌, ◌/◌, ◌%◌, ◌^◌, ◌<◌, ◌≤◌, Bool, true, false, eqb, ltb, List, ◌∷◌, ◌++◌, length, get_or, take, drop, replicate, sym, refl, ap, ◌∙◌, add-zero, zero-add, arith, rules, le-ltb, lt-ltb, eq-eqb, ne_eqb}
+use Rattle.std.proofs.lemmas.List.{places, get_or_append_left, get_or-append_right}
 use native.Mathlib.Decide.{ℕ_discrete, dec_lt}
 use lib.Bits.{block_half, block_odd}
+use borrow.Rule.Slice.PartMut.{put_mid}
+use Rattle.std.specs.List.{CopiedTo, SameBelow, SameFrom}
 use Rattle.graph.specs.Words.{flag, pick, bit, sum, row_from, row, also_if, those, those_below, set_of}
 use Rattle.graph.proofs.Facts.{clash, sum_first, sum_same, count_below}
 use Rattle.graph.proofs.Bits.{bit_low, bit_up}
@@ -10,7 +13,7 @@ use Rattle.graph.proofs.Sets.{set_is}
 use Rattle.machine.specs.Rows.{going_by, source_by, closed_by}
 use Rattle.machine.proofs.Gathering.{bit_shr}
 use Rattle.machine.proofs.Places.{below_at, below_next}
-use Rattle.machine.proofs.Filling.{row_same}
+use Rattle.machine.proofs.Filling.{row_same, same_throughout}
 
 -- ---- the slots of a set of tasks: the sixteen bits four times
 bit_plus : (n x y j : ℕ) → j < n → bit (y * 2 ^ n + x) j ≡ bit x j
@@ -144,38 +147,38 @@ module _ (going s : ℕ) where
         rw (le-ltb (s / 16) (length (onward going s)) (omega arith), le-ltb (source_by going s) 64 (omega arith)) refl
   ]
 
--- ---- sixteen numbers that are moved from one slot to another, or zeros
-pub record MovedTo (from to : ℕ) (before : List ℕ) (u : ℕ) (now : List ℕ) : Type 0 where
-  pub size : length now ≡ 1024
-  pub put : (w : ℕ) → w < u → get_or now (16 * to + w) 0 ≡ pick (ltb from 64) (get_or before (16 * from + w) 0) 0
-  pub low : (k : ℕ) → k < 16 * to → get_or now k 0 ≡ get_or before k 0
-  pub high : (k : ℕ) → 16 * to + u ≤ k → get_or now k 0 ≡ get_or before k 0
+-- ---- the sixteen numbers of a slot that are written, and all others as they were
+module _ (to : ℕ) (before now : List ℕ) (size : length now ≡ 1024) (f : ℕ → ℕ) (put : (w : ℕ) → w < 16 → get_or now (16 * to + w) 0 ≡ f w)
+    (low : (k : ℕ) → k < 16 * to → get_or now k 0 ≡ get_or before k 0) (high : (k : ℕ) → 16 * to + 16 ≤ k → get_or now k 0 ≡ get_or before k 0) where
+  put_slot : now ≡ row 1024 (λ k. pick (eqb (k / 16) to) (f (k % 16)) (get_or before k 0))
+  put_slot = sym (row_same 1024 0 _ now size (λ k b. elim (ℕ_discrete (k / 16) to) [
+    | yes q ↦ rw (eq-eqb (k / 16) to q) (let z : 16 * to + k % 16 ≡ k = omega arith in sym (put (k % 16) (omega arith)) ∙ ap (λ (j : ℕ). get_or now j 0) z)
+    | no q ↦ rw (ne_eqb (k / 16) to q) (elim (dec_lt k (16 * to)) [
+      | yes l ↦ sym (low k l)
+      | no l ↦ sym (high k (omega arith))
+    ])
+  ]))
 
-module _ (from to : ℕ) (before : List ℕ) where
-  pub moved_none : length before ≡ 1024 → MovedTo from to before 0 before
-  moved_none n = record { size = n; put = λ w b. absurd (omega arith); low = λ k b. refl; high = λ k b. refl }
+-- from another slot
+pub slot_moved : (to from n : ℕ) (before now : List ℕ) → length now ≡ 1024 → n ≡ 16
+    → CopiedTo before now (16 * from) (16 * to) n × SameBelow before now (16 * to) × SameFrom before now (16 * to + n)
+    → now ≡ row 1024 (λ k. pick (eqb (k / 16) to) (get_or before (16 * from + k % 16) 0) (get_or before k 0))
+slot_moved to from n before now size e h = put_slot to before now size (λ w. get_or before (16 * from + w) 0) (λ w b.
+    let m : 16 * from + (16 * to + w - 16 * to) ≡ 16 * from + w = omega arith in
+    h.0 (16 * to + w) 0 (omega arith) (omega arith) ∙ ap (λ (j : ℕ). get_or before j 0) m) (λ k l. h.1 k 0 l) (λ k l. h.2 k 0 (omega arith))
 
-  module _ (u : ℕ) (now : List ℕ) (r : MovedTo from to before u now) where
-    pub moved_one : (x : ℕ) → to < 64 → u < 16 → x ≡ pick (ltb from 64) (get_or now (16 * from + u) 0) 0 → MovedTo from to before (u + 1) (set now (16 * to + u) x)
-    moved_one x a b e = record {
-      size = length-set now _ _ ∙ r.size;
-      put = λ w h. elim (ℕ_discrete w u) [
-        | yes q ↦ rw q (get_or-set_same now (16 * to + u) x 0 (omega (arith, r.size)) ∙ e ∙ ap (λ (y : ℕ). pick (ltb from 64) y 0) here)
-        | no d ↦ get_or-set_other now (16 * to + u) (16 * to + w) x 0 (λ q. d (omega arith)) ∙ r.put w (omega arith)
-      ];
-      low = λ k h. get_or-set_other now (16 * to + u) k x 0 (λ q. absurd (omega arith)) ∙ r.low k h;
-      high = λ k h. get_or-set_other now (16 * to + u) k x 0 (λ q. absurd (omega arith)) ∙ r.high k (omega arith);
-    }
-      where
-        -- what is read was not written yet
-        here : get_or now (16 * from + u) 0 ≡ get_or before (16 * from + u) 0
-        here = elim (dec_lt from to) [ yes l ↦ r.low (16 * from + u) (omega arith) | no l ↦ r.high (16 * from + u) (omega arith) ]
-
-    pub moved_all : u ≡ 16 → now ≡ row 1024 (λ k. pick (eqb (k / 16) to) (pick (ltb from 64) (get_or before (16 * from + k % 16) 0) 0) (get_or before k 0))
-    moved_all e = sym (row_same 1024 0 _ now r.size (λ k b. elim (ℕ_discrete (k / 16) to) [
-      | yes q ↦ rw (eq-eqb (k / 16) to q) (let z : 16 * to + k % 16 ≡ k = omega arith in sym (r.put (k % 16) (omega arith)) ∙ ap (λ (j : ℕ). get_or now j 0) z)
-      | no q ↦ rw (ne_eqb (k / 16) to q) (elim (dec_lt k (16 * to)) [
-        | yes l ↦ sym (r.low k l)
-        | no l ↦ sym (r.high k (omega arith))
-      ])
-    ]))
+-- by zeros
+pub slot_cleared : (to n : ℕ) (before part : List ℕ) → to < 64 → length before ≡ 1024 → n ≡ 16 → part ≡ replicate 16 0
+    → put_mid (16 * to) n before part ≡ row 1024 (λ k. pick (eqb (k / 16) to) 0 (get_or before k 0))
+slot_cleared to n before part b long e z =
+    let l : length part ≡ 16 = ap length z in
+    let a : length (take (16 * to) before) ≡ 16 * to = search (rules, places) in
+    put_slot to before (put_mid (16 * to) n before part) (search (rules, places)) (λ w. 0)
+    (λ w c.
+    let m : 16 * to + w - 16 * to ≡ w = omega arith in
+    get_or-append_right (take (16 * to) before) (part ++ drop n (drop (16 * to) before)) (16 * to) (16 * to + w) 0 a (omega arith)
+    ∙ ap (λ (j : ℕ). get_or (part ++ drop n (drop (16 * to) before)) j 0) m
+    ∙ get_or_append_left part (drop n (drop (16 * to) before)) 0 w (omega arith)
+    ∙ ap (λ (l : List ℕ). get_or l w 0) z ∙ same_throughout 16 w 0)
+    (λ k c. search (rules, places))
+    (λ k c. search (rules, places))

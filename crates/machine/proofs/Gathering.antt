@@ -29,14 +29,14 @@ pub record Gathered (test : ℕ → Bool) (from rest now : ℕ) : Type 0 where
 pub bit_power : (s k : ℕ) → bit (2 ^ s) k ≡ eqb k s
 bit_power s k = ap (λ (n : ℕ). bit n k) (sym (one-mul (2 ^ s))) ∙ bit_one s k
 
-with_one : (x s : ℕ) → bit (bit_or x (2 ^ s)) s ≡ true
+pub with_one : (x s : ℕ) → bit (bit_or x (2 ^ s)) s ≡ true
 with_one x s = bit_or_lem x (2 ^ s) s ∙ ap (λ (b : Bool). bit x s || b) (bit_power s s ∙ eq-eqb s s refl) ∙ go (bit x s)
   where
     go : (b : Bool) → (b || true) ≡ true
     go true = refl
     go false = refl
 
-others_as_before : (x s k : ℕ) → (k ≡ s → ⊥) → bit (bit_or x (2 ^ s)) k ≡ bit x k
+pub others_as_before : (x s k : ℕ) → (k ≡ s → ⊥) → bit (bit_or x (2 ^ s)) k ≡ bit x k
 others_as_before x s k d = bit_or_lem x (2 ^ s) k ∙ ap (λ (b : Bool). bit x k || b) (bit_power s k ∙ ne_eqb k s d) ∙ go (bit x k)
   where
     go : (b : Bool) → (b || false) ≡ b

@@ -1,15 +1,28 @@
 -- The slot of a set that ranks first: by ticks left, then task, then age place. `before_by` is a strict order of the sixty-four slots, so the better of
 -- the first of those passed and the next one is the first of them all.
-use Rattle.std.proofs.Common.{◌≡◌, ℕ, ◌-◌, ◌^◌, ◌<◌, true, false, ltb, ◌⊎◌, List, get_or, sym, refl, ap, ◌∙◌, inl, inr, ⊎_elim, arith, ltb-false, ltb-true, le-ltb, lt-ltb, eq-eqb, ne_eqb}
+use Rattle.std.proofs.Common.{◌≡◌, ℕ, ◌-◌, ◌^◌, ◌<◌, Bool, true, false, ◌&&◌, ◌||◌, ltb, ◌⊎◌, List, get_or, sym, refl, ap, ◌∙◌, inl, inr, ⊎_elim, arith, ltb-false, ltb-true, le-ltb, lt-ltb, eq-eqb, ne_eqb}
+use mathlib.Core.Bool.{cond}
 use mathlib.Core.Path.{subst⁻¹}
 use native.Mathlib.Decide.{ℕ_discrete, dec_lt}
 use lib.Bits.{bit_and}
 use lib.Count.{count_trailing_zeros}
+use Rattle.std.specs.declared.option.Option.TheVariants.{Some}
+use Rattle.std.specs.declared.cmp.Ordering.TheVariants.{Less, Equal, Greater}
+use Rattle.std.specs.Ordering.{partial_ordering_then, is_some_and, is_lt}
 use Rattle.graph.specs.Words.{bit}
 use Rattle.graph.proofs.Facts.{clash}
 use Rattle.graph.proofs.Bits.{bit_zero}
 use Rattle.machine.specs.Rows.{order_of, before_by, RanksFirst}
 use Rattle.machine.proofs.Sweeping.{first_small, first_in, first_out, falls, others_same, still_in}
+
+-- ---- as the code compares two pairs
+pub pair_before : (l e l' e' : Bool)
+    → is_some_and is_lt (partial_ordering_then (Some (cond l Less (cond e Equal Greater))) (Some (cond l' Less (cond e' Equal Greater)))) ≡ (l || (e && l'))
+pair_before true e l' e' = refl
+pair_before false true true e' = refl
+pair_before false true false true = refl
+pair_before false true false false = refl
+pair_before false false l' e' = refl
 
 module _ (ticks : List ℕ) where
   -- slot a ranks before slot b

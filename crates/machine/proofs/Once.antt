@@ -1,5 +1,6 @@
 -- A choice in memory: what it lists, and a list of which each number is taken once, one after the other.
-use Rattle.std.proofs.Common.{◌≡◌, ℕ, suc, ◌+◌, ◌%◌, ◌<◌, ◌≤◌, min, Bool, true, false, eqb, List, [], ◌∷◌, ◌++◌, length, get_or, take, drop, set, sym, refl, ap, ◌∙◌, subst, ap₂, mod-eq_of_lt, add-one, arith, length-set, length-take-le, take_all, drop-cons, get_or-set_other, get_or-take, take-suc, get_or-set_same, take-suc-set, ext_get_or, eq-eqb, ne_eqb}
+use Rattle.std.proofs.Common.{◌≡◌, ℕ, suc, ◌+◌, ◌%◌, ◌<◌, ◌≤◌, min, Bool, true, false, eqb, List, [], ◌∷◌, ◌++◌, length, get_or, take, set, sym, refl, ap, ◌∙◌, subst, ap₂, mod-eq_of_lt, add-one, arith, length-set, length-take-le, take_all, get_or-set_other, get_or-take, take-suc, get_or-set_same, take-suc-set, ext_get_or, eq-eqb, ne_eqb}
+use Rattle.std.specs.List.{list_any}
 use native.Mathlib.Decide.{ℕ_discrete}
 use Rattle.graph.specs.Words.{pick, row, is_in, Distinct}
 use Rattle.graph.proofs.Facts.{clash, length_row, row_at, first_in, other_in}
@@ -23,15 +24,14 @@ small_set n keys x b h small j l = elim (ℕ_discrete j n) [
   | no d ↦ let z = get_or-set_other keys n j x 0 d in omega (arith, small j (omega arith))
 ]
 
--- ---- a search from the front: what is left to look at decides
-pub look : (x : ℕ) (l : List ℕ) (i : ℕ) → i < length l → (x ≡ get_or l i 0 → ⊥) → is_in x (drop i l) ≡ is_in x (drop (i + 1) l)
-look x l i b d =
-    ap (is_in x) (drop-cons l i 0 b)
-    ∙ other_in x (get_or l i 0) (drop (suc i) l) d
-    ∙ ap (λ (n : ℕ). is_in x (drop n l)) (sym (add-one i))
-
-pub hit : (x : ℕ) (l : List ℕ) (i : ℕ) → i < length l → x ≡ get_or l i 0 → is_in x (drop i l) ≡ true
-hit x l i b e = ap (is_in x) (drop-cons l i 0 b ∙ ap (λ (y : ℕ). y ∷ drop (suc i) l) (sym e)) ∙ first_in x (drop (suc i) l)
+-- ---- a search in std's words
+pub any_is_in : (k : ℕ) (l : List ℕ) → list_any (λ y. eqb y k) l ≡ is_in k l
+unfolding is_in
+any_is_in k [] = refl
+any_is_in k (y ∷ l) = elim (ℕ_discrete y k) [
+  | yes e ↦ rw (eq-eqb y k e, eq-eqb k y (sym e)) refl
+  | no d ↦ rw (ne_eqb y k d, ne_eqb k y (λ e. d (sym e))) (any_is_in k l)
+]
 
 -- ---- one more at the end
 in_end : (x k : ℕ) (l : List ℕ) → is_in x (l ++ (k ∷ [])) ≡ pick (eqb x k) true (is_in x l)

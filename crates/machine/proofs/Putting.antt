@@ -4,6 +4,9 @@ use mathlib.Core.Path.{subst⁻¹}
 use native.Mathlib.Decide.{ℕ_discrete, dec_lt}
 use lib.Bits.{bit_and}
 use lib.Count.{count_trailing_zeros}
+use Rattle.std.specs.declared.option.Option.TheVariants.{Some}
+use Rattle.graph.specs.declared.set.Members.{Members}
+use Rattle.graph.specs.Members.{TakesLowest}
 use Rattle.graph.specs.Words.{pick, bit, row, set_of}
 use Rattle.graph.proofs.Facts.{clash, sum_none, length_row, row_at}
 use Rattle.graph.proofs.Bits.{bit_zero}
@@ -101,3 +104,10 @@ module _ (costs before : List ℕ) (all : ℕ) where
         go : (k : ℕ) → k < 1024 → (c : Bool) → bit all (k / 16) ≡ c → pick c (get_or costs (k % 256) 0) (get_or before k 0) ≡ get_or now k 0
         go k b true e = sym (r.done k b e (ap (λ (n : ℕ). bit n (k / 16)) z ∙ bit_zero (k / 16)))
         go k b false e = sym (r.kept k b e)
+
+-- a step over the members of a set
+pub at_next : (costs before : List ℕ) (all : ℕ) {old new : Members} {s : ℕ} → TakesLowest old (Some s) new → (now : List ℕ) → PutAt costs before all old.rest now
+    → PutAt costs before all new.rest (row 1024 (λ k. pick (eqb (k / 16) s) (get_or costs (k % 256) 0) (get_or now k 0)))
+at_next costs before all {old} {new} {s} t now r =
+    subst⁻¹ (λ (n : ℕ). PutAt costs before all n (row 1024 (λ k. pick (eqb (k / 16) s) (get_or costs (k % 256) 0) (get_or now k 0)))) t.3
+    (at_one costs before all old.rest now r t.0 s t.1)

@@ -254,26 +254,31 @@ module _ (over going : ℕ) (deadlines₀ rest₀ work₀ : List ℕ) where
               let q : (16 * k + u) / 16 ≡ k = omega arith in
               ap (λ (c : Bool). pick c (pick (ltb from 64) (get_or left (16 * from + (16 * k + u) % 16) 0) 0) (get_or left (16 * k + u) 0)) (ne_eqb ((16 * k + u) / 16) s (λ z. d (sym q ∙ z)))
 
-      module _ (now : ℕ) (deadlines' left' work' : List ℕ)
-          (el : left' ≡ row 1024 (λ k. pick (eqb (k / 16) s) (pick (ltb from 64) (get_or left (16 * from + k % 16) 0) 0) (get_or left k 0))) where
+      module _ (now : ℕ) (deadlines' left' work' : List ℕ) where
         -- a job comes to stand at the slot
         pub closing_with : (l : from < 64) (m : ℕ) → m ≡ 2 ^ s → now ≡ bit_or live m → deadlines' ≡ set deadlines s (get_or deadlines from 0)
+            → left' ≡ row 1024 (λ k. pick (eqb (k / 16) s) (get_or left (16 * from + k % 16) 0) (get_or left k 0))
             → work' ≡ set work s (get_or work from 0) → Closing all (bit_and rest (rest - 1)) now deadlines' left' work'
-        closing_with l m em en ed ew =
-            let y : (x : ℕ) → x ≡ pick (ltb from 64) x 0 = λ x. ap (λ (c : Bool). pick c x 0) (sym (lt-ltb from 64 l)) in
+        closing_with l m em en ed el ew =
+            let t = sym (lt-ltb from 64 l) in
+            let y : (x : ℕ) → x ≡ pick (ltb from 64) x 0 = λ x. ap (λ (c : Bool). pick c x 0) t in
             closing_one now
             (subst⁻¹ (λ (n : ℕ). Lives over all going r.slots (bit_and rest (rest - 1)) n) (en ∙ ap (λ (n : ℕ). bit_or live n) em)
             (lives_with over all going r.slots rest live r.lives r.passing p s from es ef l))
-            (get_or deadlines from 0) (get_or work from 0) (y (get_or deadlines from 0)) (y (get_or work from 0)) deadlines' left' work' ed el ew
+            (get_or deadlines from 0) (get_or work from 0) (y (get_or deadlines from 0)) (y (get_or work from 0)) deadlines' left' work' ed
+            (el ∙ ap (λ (c : Bool). row 1024 (λ k. pick (eqb (k / 16) s) (pick c (get_or left (16 * from + k % 16) 0) 0) (get_or left k 0))) t) ew
 
         -- or none does
-        pub closing_without : (l : 64 ≤ from) → now ≡ live → deadlines' ≡ set deadlines s 0 → work' ≡ set work s 0 → Closing all (bit_and rest (rest - 1)) now deadlines' left' work'
-        closing_without l en ed ew =
-            let y : (x : ℕ) → 0 ≡ pick (ltb from 64) x 0 = λ x. ap (λ (c : Bool). pick c x 0) (sym (le-ltb from 64 l)) in
+        pub closing_without : (l : 64 ≤ from) → now ≡ live → deadlines' ≡ set deadlines s 0 → left' ≡ row 1024 (λ k. pick (eqb (k / 16) s) 0 (get_or left k 0))
+            → work' ≡ set work s 0 → Closing all (bit_and rest (rest - 1)) now deadlines' left' work'
+        closing_without l en ed el ew =
+            let t = sym (le-ltb from 64 l) in
+            let y : (x : ℕ) → 0 ≡ pick (ltb from 64) x 0 = λ x. ap (λ (c : Bool). pick c x 0) t in
             closing_one now
             (subst⁻¹ (λ (n : ℕ). Lives over all going r.slots (bit_and rest (rest - 1)) n) en
             (lives_without over all going r.slots rest live r.lives r.passing p s from es ef l))
-            0 0 (y (get_or deadlines from 0)) (y (get_or work from 0)) deadlines' left' work' ed el ew
+            0 0 (y (get_or deadlines from 0)) (y (get_or work from 0)) deadlines' left' work' ed
+            (el ∙ ap (λ (c : Bool). row 1024 (λ k. pick (eqb (k / 16) s) (pick c (get_or left (16 * from + k % 16) 0) 0) (get_or left k 0))) t) ew
 
     -- all slots are passed
     module _ (z : rest ≡ 0) where

@@ -1,7 +1,7 @@
 -- How the code takes the steps, for the contracts of its parts: by the set of slots with a live job and by rows of deadlines, waits, work and what
 -- remains. Slot s = 16 * p + i is age place p of task i, so what remains of its vertex u lies at 16 * s + u.
-use Rattle.std.specs.Prelude.{◌≡◌, ℕ, ◌+◌, ◌-◌, ◌*◌, ◌/◌, ◌%◌, ◌<◌, Bool, true, false, ◌&&◌, ◌||◌, eqb, List, [], length, get_or, ◌==◌, ◌≢◌, nat_le, nat_lt}
-use Rattle.graph.specs.Words.{flag, pick, bit, sum, all, row, those_below, lowest_or}
+use Rattle.std.specs.Prelude.{◌≡◌, ℕ, ◌+◌, ◌-◌, ◌*◌, ◌/◌, ◌%◌, ◌<◌, Bool, true, false, ◌&&◌, ◌||◌, eqb, List, [], length, get_or, ◌==◌, ◌≢◌, nat_le, nat_lt, bit_or, Result, Ok, Err}
+use Rattle.graph.specs.Words.{flag, pick, bit, sum, all, row, those_below, is_in, lowest_or, set_of}
 use Rattle.table.specs.declared.Task.{Task}
 use Rattle.table.specs.declared.Table.{Table}
 use Rattle.table.specs.Memory.{task, D, T}
@@ -14,7 +14,9 @@ use Rattle.machine.specs.declared.Place.{Place}
 use Rattle.machine.specs.declared.TaskState.{TaskState}
 use Rattle.machine.specs.declared.State.{State}
 use Rattle.machine.specs.declared.Reply.{Reply}
-use Rattle.machine.specs.States.{no_job, wrap}
+use Rattle.machine.specs.declared.rows.Rows.{Rows}
+use Rattle.machine.specs.States.{no_job, is_live, deadline_of, wrap, ticks_left}
+use Rattle.machine.specs.Steps.{name_at, run_of}
 
 -- what a read past the end of sixteen tasks gives: it is never made
 unfoldable pub no_task : TaskState
@@ -123,16 +125,70 @@ pub record Tidy (live : ℕ) (rest work : List ℕ) : Type 0 where
   pub no_work_lem : (s : ℕ) → s < 64 → bit live s ≡ false → get_or work s 0 ≡ 0
   pub no_rest : (s u : ℕ) → s < 64 → u < 16 → bit live s ≡ false → get_or rest (16 * s + u) 0 ≡ 0
 
--- ---- a tick's refusal, in the order of specs/Ticking.antt: number 0 if there is none
+-- ---- a tick's refusal, in the order of specs/Ticking.antt
 abbrev pub reply_of : ℕ → ℕ → Reply
 reply_of number task = record { number = number; place = 0; task = task }
 
-unfoldable pub refusal_in : Phase → ℕ → ℕ → List ℕ → Reply
+unfoldable pub refusal_in : Phase → ℕ → ℕ → List ℕ → Result (Unit {0}) Reply
 refusal_in Running named n waits =
-    lowest_or 16 (λ i. bit named i && nat_le n i) (reply_of 31)
-    (lowest_or n (λ i. bit named i && nat_lt 0 (get_or waits i 0)) (reply_of 33)
-    (reply_of 0 255))
-refusal_in (Stopped k) named n waits = reply_of 32 255
+    lowest_or 16 (λ i. bit named i && nat_le n i) (λ i. Err (reply_of 31 i))
+    (lowest_or n (λ i. bit named i && nat_lt 0 (get_or waits i 0)) (λ i. Err (reply_of 33 i))
+    (Ok tt))
+refusal_in (Stopped k) named n waits = Err (reply_of 32 255)
 
-unfoldable pub refusal_of : Bool → Phase → ℕ → ℕ → List ℕ → Reply
-refusal_of fits phase named n waits = pick fits (refusal_in phase named n waits) (reply_of 30 255)
+unfoldable pub refusal_of : Bool → Phase → ℕ → ℕ → List ℕ → Result (Unit {0}) Reply
+refusal_of fits phase named n waits = pick fits (refusal_in phase named n waits) (Err (reply_of 30 255))
+
+-- ---- a state taken apart, as src/rows.rt has it, and what each step makes of its rows: the slots with a live job, their deadlines, 0 elsewhere, the
+-- waits, and the two rows that a state has itself
+abbrev pub live_in : List TaskState → ℕ
+live_in states = set_of 64 (λ s. is_live (job_in states s))
+
+abbrev pub taken_apart : State → Rows
+taken_apart st = record {
+  clock = st.clock;
+  phase = st.phase;
+  live = live_in st.tasks;
+  deadlines = row 64 (λ s. pick (bit (live_in st.tasks) s) (deadline_of (job_in st.tasks s)) 0);
+  waits = row 16 (λ i. (get_or st.tasks i no_task).wait);
+  remaining = st.remaining;
+  work = st.work;
+}
+
+-- the ticks left of the live slots; 0 elsewhere
+abbrev pub ticks_of : Rows → List ℕ
+ticks_of r = row 64 (λ s. pick (bit r.live s) (ticks_left (get_or r.deadlines s 0) r.clock) 0)
+
+abbrev pub rows_fit : Table → Rows → Bool
+rows_fit t r = fits_by r.phase t t.costs r.live (ticks_of r) r.waits r.work r.remaining
+
+-- step 1
+abbrev pub fresh_in : ℕ → ℕ → ℕ
+fresh_in live named = set_of 64 (is_new_by live named)
+
+abbrev pub begun : Table → ℕ → Rows → Rows
+begun t named r = record {
+  clock = r.clock;
+  phase = r.phase;
+  live = bit_or r.live (fresh_in r.live named);
+  deadlines = begun_deadlines t r.clock (fresh_in r.live named) r.deadlines;
+  waits = begun_waits t named r.waits;
+  remaining = begun_rest t.costs (fresh_in r.live named) r.remaining;
+  work = begun_work t.costs (fresh_in r.live named) r.remaining r.work;
+}
+
+-- the state after step 4 that rows make
+abbrev pub state_after : Rows → State
+state_after r = rows_after r.clock r.phase r.live r.deadlines r.waits r.remaining r.work
+
+-- step 4
+abbrev pub with_run : List ℕ → Rows → Rows
+with_run chosen r = record {
+  clock = r.clock;
+  phase = r.phase;
+  live = r.live;
+  deadlines = r.deadlines;
+  waits = r.waits;
+  remaining = row 1024 (λ k. pick (is_in (name_at k) chosen) (get_or r.remaining k 0 - 1) (get_or r.remaining k 0));
+  work = row 64 (λ s. get_or r.work s 0 - run_of (state_after r) (s % 16) (s / 16) chosen);
+}

@@ -9,23 +9,18 @@ ghost use Rattle.machine.specs.States.{live, deadline, left};
 ghost use Rattle.machine.specs.Steps.{available_sets, own_choice, listed};
 ghost use Rattle.machine.specs.Rows.{order_of, before_by, RanksFirst};
 
-use crate::{Chosen, held, numbers};
+use crate::{Chosen, held};
+use graph::set::Members;
 use table::Table;
 
 // Step 2 at the slots of a set: the ready vertices of each; none elsewhere.
 pub(crate) fn sets_of(t: Table, live: u64, remaining: &[u32; 1024]) -> [u16; 64]
     ensures { result ≡ row 64 (λ s. pick (bit live s) (set_of 16 (is_ready (task t (s % 16)).succ (task t (s % 16)).v remaining.now s)) 0) }
 {
-    let tasks = t.tasks;
     let mut sets = [0u16; 64];
-    let mut rest = live;
-    while rest != 0 {
-        let s = numbers::first_of(rest);
-        let x = tasks[s % 16];
-        let succ = x.succ;
-        let v = x.v as usize;
-        sets[s] = slots::ready(succ, v, remaining, s);
-        rest &= rest - 1;
+    for s in Members::of(live) {
+        let a = t.tasks[s % 16];
+        sets[s] = slots::ready(a.succ, usize::from(a.v), remaining, s);
     }
     sets
 }
@@ -34,16 +29,7 @@ pub(crate) fn sets_of(t: Table, live: u64, remaining: &[u32; 1024]) -> [u16; 64]
 fn some_in(live: u64, sets: &[u16; 64]) -> u64
     ensures { result ≡ set_of 64 (λ s. bit live s && nat_lt 0 (slice_index sets.now s)) }
 {
-    let mut among: u64 = 0;
-    let mut rest = live;
-    while rest != 0 {
-        let s = numbers::first_of(rest);
-        if sets[s] != 0 {
-            among |= numbers::power(s);
-        }
-        rest &= rest - 1;
-    }
-    among
+    held::passing(live, |s| sets[s] > 0)
 }
 
 // Where a slot stands among those with as many ticks left: by task, then age place.
@@ -59,13 +45,7 @@ fn ranks_before(ticks: &[u32; 64], a: usize, b: usize) -> bool
     requires { (a < 64) × (b < 64) }
     ensures { result ≡ before_by ticks.now a b }
 {
-    if ticks[a] < ticks[b] {
-        return true;
-    }
-    if ticks[b] < ticks[a] {
-        return false;
-    }
-    order_of(a) < order_of(b)
+    (ticks[a], order_of(a)) < (ticks[b], order_of(b))
 }
 
 // The slot of a set, not empty, that ranks first.
@@ -73,14 +53,11 @@ fn next_slot(among: u64, ticks: &[u32; 64]) -> usize
     requires { 0 < among }
     ensures { RanksFirst among ticks.now result }
 {
-    let mut best = numbers::first_of(among);
-    let mut rest = among & (among - 1);
-    while rest != 0 {
-        let s = numbers::first_of(rest);
+    let mut best = among.trailing_zeros() as usize;
+    for s in Members::of(among & (among - 1)) {
         if ranks_before(ticks, s, best) {
             best = s;
         }
-        rest &= rest - 1;
     }
     best
 }
@@ -90,26 +67,7 @@ fn first_vertex(set: u16) -> usize
     requires { 0 < set }
     ensures { (result < 16) × (bit set result ≡ true) × ((j : ℕ) → j < result → bit set j ≡ false) }
 {
-    u16::trailing_zeros(set) as usize
-}
-
-// A set of vertices without u.
-fn without(set: u16, u: usize) -> u16
-    requires { u < 16 }
-    ensures { (k : ℕ) → k < 16 → bit result k ≡ (bit set k && not (k == u)) }
-{
-    set & !(1u16 << u)
-}
-
-// A set of slots without s where nothing is left of its own.
-fn narrowed(among: u64, s: usize, set: u16) -> u64
-    requires { s < 64 }
-    ensures { (k : ℕ) → k < 64 → bit result k ≡ (bit among k && not (k == s && set == 0)) }
-{
-    if set != 0 {
-        return among;
-    }
-    among & !numbers::power(s)
+    set.trailing_zeros() as usize
 }
 
 // The number of vertex u of slot s in a choice.
@@ -126,29 +84,23 @@ pub(crate) fn choose(m: u8, begun: u64, given: [u16; 64], ticks: &[u32; 64]) -> 
     requires { (m ≤ 8) × ((s : ℕ) → s < 64 → bit begun s ≡ false → slice_index given s ≡ 0) }
     ensures { ((t : Table) (st : State) → t.m ≡ m → given ≡ available_sets t st → ((i p : ℕ) → i < 16 → p < 4 → live st i p ≡ true → slice_index ticks.now (16 * p + i) ≡ left st i p) → listed result ≡ own_choice t st) × (result.count ≤ 8) }
 {
-    let most = m as usize;
     let mut sets = given;
     let mut among = some_in(begun, &sets);
     let mut keys = [0u16; 8];
-    let mut count: usize = 0;
-    while count < most {
+    let most = usize::from(m);
+    for count in 0..most {
         if among == 0 {
-            return Chosen {
-                keys: keys,
-                count: count,
-            };
+            return Chosen { keys, count };
         }
         let s = next_slot(among, ticks);
         let u = first_vertex(sets[s]);
         keys[count] = key_of(s, u);
-        sets[s] = without(sets[s], u);
-        among = narrowed(among, s, sets[s]);
-        count += 1;
+        sets[s] &= !(1u16 << u);
+        if sets[s] == 0 {
+            among &= !(1u64 << s);
+        }
     }
-    Chosen {
-        keys: keys,
-        count: count,
-    }
+    Chosen { keys, count: most }
 }
 
 // Steps 2 and 3: the machine's own choice, by the set of slots that are live once step 1 is made.
@@ -167,36 +119,18 @@ pub(crate) fn own_choice(
     choose(t.m, begun, sets, &left)
 }
 
-// Whether vertex k is among the first `count`.
-fn holds(keys: &[u16; 8], count: usize, k: u16) -> bool
-    requires { (count ≤ 8) × (length keys.now ≡ 8) }
-    ensures { result ≡ is_in k (take count keys.now) }
-{
-    for i in 0..count {
-        if keys[i] == k {
-            return true;
-        }
-    }
-    false
-}
-
 // The vertices that a choice lists, none of them twice.
 pub(crate) fn once(chosen: Chosen) -> Chosen
     ensures { Distinct (listed result) × ((k : ℕ) → is_in k (listed result) ≡ is_in k (listed chosen)) }
 {
-    let many = numbers::places(chosen.count);
-    let given = chosen.keys;
     let mut keys = [0u16; 8];
-    let mut count: usize = 0;
-    for j in 0..many {
-        let k = given[j] % 1024;
-        if !holds(&keys, count, k) {
+    let mut count = 0;
+    for j in 0..chosen.count.min(8) {
+        let k = chosen.keys[j] % 1024;
+        if !keys[..count].contains(&k) {
             keys[count] = k;
             count += 1;
         }
     }
-    Chosen {
-        keys: keys,
-        count: count,
-    }
+    Chosen { keys, count }
 }

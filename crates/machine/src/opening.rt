@@ -9,17 +9,16 @@ use table::Outcome;
 pub fn zeros(clock: u32, phase: Phase) -> State
     ensures { result ≡ zeros clock phase }
 {
-    let none = Place { job: Job::Nothing };
     let idle = TaskState {
         wait: 0,
-        jobs: [none; 4],
+        jobs: [Place { job: Job::Nothing }; 4],
     };
     State {
-        clock: clock,
-        phase: phase,
+        clock,
+        phase,
         tasks: [idle; 16],
-        remaining: [0u32; 1024],
-        work: [0u64; 64],
+        remaining: [0; 1024],
+        work: [0; 64],
     }
 }
 
@@ -27,14 +26,13 @@ pub fn zeros(clock: u32, phase: Phase) -> State
 fn unopened(o: Outcome) -> Opened
     ensures { result ≡ unopened o }
 {
-    let state = zeros(0, Phase::Stopped(255));
     Opened {
         reply: Reply {
-            number: table::number(o),
-            place: table::place(o),
+            number: o.number(),
+            place: o.place(),
             task: 255,
         },
-        state: state,
+        state: zeros(0, Phase::Stopped(255)),
     }
 }
 
@@ -47,13 +45,12 @@ pub fn open(bytes: &[u8], clock: u32) -> Opened
     let Outcome::Read = o else {
         return unopened(o);
     };
-    let state = zeros(clock, Phase::Running);
     Opened {
         reply: Reply {
             number: 0,
             place: 0,
             task: 255,
         },
-        state: state,
+        state: zeros(clock, Phase::Running),
     }
 }

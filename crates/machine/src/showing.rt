@@ -9,6 +9,5 @@ use crate::{State, held};
 pub fn live_slots(st: State) -> u64
     ensures { result ≡ set_of 64 (λ s. live st (s % 16) (s / 16)) }
 {
-    let states = st.tasks;
-    held::live_set(states)
+    held::live_set(st.tasks)
 }

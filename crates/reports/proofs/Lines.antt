@@ -1,29 +1,19 @@
--- The report's parts: the bounds that keep the places small, the verdict's words by its number, a task's line and its margin.
+-- The report's parts: the verdict's words by its number, a task's line and its margin.
 use mathlib.Core.Path.{◌≡◌, refl, ap, ap₂, ◌∙◌}
 use mathlib.Core.Bool.{true}
 use mathlib.Core.List.{List, [], ◌∷◌, ◌++◌, append_assoc}
-use Prim.Native.Nat.{ℕ, suc, ◌+◌, ◌*◌, ◌-◌, ◌^◌, ◌≤◌, ◌<◌, min}
+use Prim.Native.Nat.{ℕ, ◌+◌, ◌*◌, ◌-◌, ◌^◌, ◌≤◌, ◌<◌, min}
 use native.Mathlib.Omega.{arith}
-use lib.ListN.{length, get_or}
+use lib.ListN.{get_or}
 use lib.Dec.{eqb}
-use lib.IntN.{ℤ, pos, negsuc, ◌-ℤ◌}
+use lib.IntN.{ℤ, pos, ◌-ℤ◌}
 use borrow.Author.Tests.{eq-eqb, ne_eqb}
 use Rattle.graph.specs.Words.{pick}
 use Rattle.text.specs.Text.{text, newline, decimal, signed}
-use Rattle.text.proofs.Decimal.{decimal_length}
 use Rattle.verdict.specs.declared.Figures.{Figures}
 use Rattle.verdict.specs.declared.Findings.{Findings}
 use Rattle.reports.specs.Report.{task_line, vertex_at}
 use Rattle.reports.specs.Found.{margin_in, figures_in, Printable}
-
--- ---- bounds
-signed_most : (z : ℤ) → length (signed z) ≤ 21
-unfolding signed
-signed_most (pos n) = omega (arith, (decimal_length n).1)
-signed_most (negsuc n) = omega (arith, (decimal_length (suc n)).1)
-
-pub signed_within : (n : ℕ) (z : ℤ) → n ≡ length (signed z) → n ≤ 21
-signed_within n z e = omega (arith, signed_most z)
 
 -- ---- the verdict's first words, by its number
 pub says_accept : (n : ℕ) → n ≡ 0 → text "accept" ≡ pick (eqb n 0) (text "accept") (text "refuse " ++ decimal n)

@@ -1,14 +1,13 @@
 -- The report on a file, from its lines: what reading gave, zeros behind the text, a caller's buffer.
-use mathlib.Core.Path.{◌≡◌, refl, sym, ap, ap₂, ◌∙◌}
-use mathlib.Core.List.{List}
-use Prim.Native.Nat.{ℕ, ◌-◌, ◌≤◌, ◌<◌}
+use mathlib.Core.Path.{◌≡◌, refl, sym, ap, ◌∙◌}
+use mathlib.Core.List.{List, ◌++◌}
+use Prim.Native.Nat.{ℕ, ◌≤◌, ◌<◌}
 use native.Mathlib.Omega.{arith}
-use lib.ListN.{length, take, drop, replicate, length-append, length-replicate}
-use lib.Seq.{take-append_seam}
+use lib.ListN.{length, take, drop}
 use borrow.Author.Tests.{le-leb, lt-leb}
-use Rattle.text.specs.Laid.{laid, Put}
-use Rattle.text.proofs.Laying.{laid_front}
-use Rattle.text.proofs.Putting.{put_same, put_long, zeros_behind}
+use Rattle.text.specs.declared.page.Page.{Page}
+use Rattle.text.specs.Page.{blank, Adds}
+use Rattle.text.proofs.Pages.{same, written_by, written_len, written_long, written_text}
 use Rattle.table.specs.declared.Outcome.{Outcome}
 use Rattle.table.specs.declared.Outcome.TheVariants.{Read, Short, Mark, Range, Ticks, Order, Edge, Cycle, Extra}
 use Rattle.table.specs.Reading.{when_read, read}
@@ -19,7 +18,6 @@ use Rattle.verdict.specs.Verdicts.{verdict_on, figures_on, findings_on, no_findi
 use Rattle.table.specs.declared.Table.{Table}
 use Rattle.table.specs.Good.{GoodTable}
 use Rattle.table.proofs.Sound.{read_good}
-use Rattle.reports.specs.declared.Report.{Report}
 use Rattle.sharp.specs.Sharp.{sharp_on, sharp_figures_on, sharp_findings_on, sharp_findings_read, sharp_findings}
 use Rattle.reports.specs.Report.{bad_line, report_on, report_read, report, sharp_report, reported, report_into}
 use Rattle.reports.specs.Found.{lines_on, lines_of, Printable}
@@ -28,46 +26,34 @@ use Rattle.reports.proofs.Found.{old_printable, old_lines, sharp_printable, shar
 
 -- ---- the lines of what was found, by its outcome
 module _ (f : Findings) where
-  pub put_stop : {buf after : List ℕ} {next : ℕ} → Put buf 0 (bad_line f.outcome) after next → (f.outcome ≡ Read → ⊥) → Put buf 0 (lines_of f) after next
+  pub adds_stop : {n : ℕ} {a b : Page n} → Adds a b (bad_line f.outcome) → (f.outcome ≡ Read → ⊥) → Adds a b (lines_of f)
   unfolding lines_of
-  put_stop p n = put_same p (not_read f.outcome bad_line _ n)
+  adds_stop x n = same x (not_read f.outcome bad_line _ n)
 
-  pub put_got : {buf after : List ℕ} {next : ℕ} → Put buf 0 (lines_on f) after next → f.outcome ≡ Read → Put buf 0 (lines_of f) after next
+  pub adds_got : {n : ℕ} {a b : Page n} → Adds a b (lines_on f) → f.outcome ≡ Read → Adds a b (lines_of f)
   unfolding lines_of
-  put_got p e = put_same p (rw e refl)
+  adds_got x e = same x (rw e refl)
 
-pub ruleset line-laws = (told_other, put_stop, put_got)
+pub ruleset line-laws = (told_other, adds_stop)
 
--- ---- zeros behind the text
-pub text_put : (f : Findings) → (f.outcome ≡ Read → Printable f) → (after : List ℕ) (next : ℕ) → Put (replicate 2048 0) 0 (lines_of f) after next
-    → (record { bytes = after; len = next }) ≡ reported (lines_of f)
-unfolding reported
-text_put f short after next p =
-    let n : next ≡ length (lines_of f) = omega (arith, p.behind) in
-    ap₂ (λ (b : List ℕ) (k : ℕ). record { bytes = b; len = k }) (p.holds ∙ zeros_behind 2048 (lines_of f) (omega (arith, lines_of_most f short))) n
+-- ---- the lines on a page that holds every report
+module _ (f : Findings) (short : f.outcome ≡ Read → Printable f) {a b : Page 2048} (e : a ≡ blank 2048) (x : Adds a b (lines_of f)) where
+  pub page_reported : b ≡ reported (lines_of f)
+  unfolding reported
+  page_reported = written_by e x (omega (arith, lines_of_most f short))
 
--- ---- a text in a buffer that holds every one
-module _ (f : Findings) (short : f.outcome ≡ Read → Printable f) (buf after : List ℕ) (len : ℕ) (long : length buf ≡ 1366) (p : Put buf 0 (lines_of f) after len) where
-  pub put_len : len ≡ length (lines_of f)
-  put_len = omega (arith, p.behind)
-
-  pub put_within : len ≤ length after
-  put_within = omega (arith, put_len, put_long p, lines_of_most f short)
-
-  -- its first bytes are the text
-  pub put_text : take len after ≡ lines_of f
-  put_text =
-      ap₂ (λ (n : ℕ) (l : List ℕ). take n l) put_len (p.holds ∙ laid_front buf (lines_of f) (omega (arith, lines_of_most f short)))
-      ∙ take-append_seam (lines_of f) (drop (length (lines_of f)) buf)
+module _ (f : Findings) (short : f.outcome ≡ Read → Printable f) {a b : Page 1366} (e : a ≡ blank 1366) (x : Adds a b (lines_of f)) where
+  pub page_text : take b.len b.bytes ≡ lines_of f
+  page_text = written_text (lines_of f) (lines_of_most f short) b (written_by e x (lines_of_most f short))
 
 -- ---- a caller's buffer
 pub into_short : (words buf : List ℕ) → length buf < length words → buf ≡ report_into words buf
 unfolding report_into
 into_short words buf h = rw (lt-leb (length words) (length buf) h)
 
-pub into_fits : (words buf : List ℕ) → length words ≤ length buf → laid buf 0 words ≡ report_into words buf
+pub into_fits : (words buf : List ℕ) → length words ≤ length buf → words ++ drop (length words) buf ≡ report_into words buf
 unfolding report_into
-into_fits words buf h = laid_front buf words h ∙ rw (le-leb (length words) (length buf) h)
+into_fits words buf h = rw (le-leb (length words) (length buf) h)
 
 -- ---- the lines of what was found of a file, by a way of finding: `on` a table that is read, of which `words` is the report
 module _ (on : Table → Findings) (words : Table → List ℕ) (well : (t : Table) → (on t).outcome ≡ Read)
@@ -149,16 +135,14 @@ pub sharp_report_most : (s : List ℕ) → length (sharp_report s) ≤ 1366
 sharp_report_most s = omega (arith, ap length (sharp_text s (sharp_findings s) refl), lines_of_most (sharp_findings s) (sharp_ready s (sharp_findings s) refl))
 
 -- ---- a report in memory
-module _ (words : List ℕ) (most : length words ≤ 1366) (r : Report) (h : r ≡ reported words) where
+module _ (words : List ℕ) (most : length words ≤ 1366) (r : Page 2048) (h : r ≡ reported words) where
   pub report_len : r.len ≡ length words
   unfolding reported
-  report_len = ap (λ (x : Report). x.len) h
+  report_len = written_len words (omega arith) r h
 
   pub report_long : length r.bytes ≡ 2048
   unfolding reported
-  report_long =
-      ap (λ (x : Report). length x.bytes) h ∙ length-append words (replicate (2048 - length words) 0)
-      ∙ omega (arith, length-replicate {A = ℕ} (2048 - length words) 0)
+  report_long = written_long words (omega arith) r h
 
   pub report_within : r.len ≤ 1366
   report_within = omega (arith, report_len)

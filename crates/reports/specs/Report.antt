@@ -1,5 +1,5 @@
 -- The report's text, as bytes: document 01, "Examples by hand"; document 02, M-102, for the chain, and M-107 for the sharp report.
-use Rattle.std.specs.Prelude.{List, ◌++◌, ℕ, ◌-◌, leb, eqb, length, get_or, drop, replicate}
+use Rattle.std.specs.Prelude.{List, ◌++◌, ℕ, leb, eqb, length, get_or, drop}
 use Rattle.graph.specs.Words.{pick, in_order}
 use Rattle.text.specs.Text.{text, newline, decimal, signed}
 use Rattle.table.specs.declared.Table.{Table}
@@ -11,7 +11,8 @@ use Rattle.verdict.specs.declared.Verdict.{Verdict}
 use Rattle.verdict.specs.declared.Figures.{Figures}
 use Rattle.verdict.specs.Verdicts.{verdict_on, figures_on}
 use Rattle.sharp.specs.Sharp.{sharp_on, sharp_figures_on}
-use Rattle.reports.specs.declared.Report.{Report}
+use Rattle.text.specs.declared.page.Page.{Page}
+use Rattle.text.specs.Page.{written}
 
 -- "processors 2 tasks 2"
 unfoldable pub head_line : ℕ → ℕ → List ℕ
@@ -56,8 +57,8 @@ unfoldable pub sharp_report : List ℕ → List ℕ
 sharp_report s = report_read sharp_figures_on sharp_on (read s)
 
 -- a text in memory: at the front of 2,048 bytes, with zeros behind it, and its length
-unfoldable pub reported : List ℕ → Report
-reported words = record { bytes = words ++ replicate (2048 - length words) 0; len = length words }
+unfoldable pub reported : List ℕ → Page 2048
+reported = written 2048
 
 -- in a caller's own buffer: at its front if it fits, the rest unchanged; otherwise nothing is written
 unfoldable pub report_into : List ℕ → List ℕ → List ℕ

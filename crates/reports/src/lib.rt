@@ -7,8 +7,4 @@ mod reporting;
 pub use reporting::{report_into, report_of, sharp_report_into, sharp_report_of};
 
 // A report's text, at the front of its bytes, and how long it is.
-#[derive(Clone, Copy)]
-pub struct Report {
-    pub bytes: [u8; 2048],
-    pub len: usize,
-}
+pub type Report = text::Page<2048>;

@@ -5,6 +5,7 @@ ghost use Rattle.reports.specs.Report.{report, sharp_report, reported, report_in
 ghost use Rattle.reports.specs.Found.{lines_of, Printable};
 
 use crate::{Report, printing};
+use text::Page;
 use verdict::Findings;
 
 // The text of what was found, and zeros behind it.
@@ -12,26 +13,23 @@ fn text_of(f: Findings) -> Report
     requires { f.outcome ≡ Read → Printable f }
     ensures { result ≡ reported (lines_of f) }
 {
-    let mut out = [0u8; 2048];
-    let len = printing::lines_of(f, &mut out);
-    Report {
-        bytes: out,
-        len: len,
-    }
+    let mut page = Page::new();
+    printing::lines_of(&mut page, f);
+    page
 }
 
-// The text of what was found at the front of a caller's buffer, if it fits there; its length.
+// The text of what was found at the front of a caller's buffer, if it fits there; its length. The page is as small as the longest report.
 fn text_into(f: Findings, out: &mut [u8]) -> usize
     requires { f.outcome ≡ Read → Printable f }
     ensures { (result ≡ length (lines_of f)) × (out.new ≡ report_into (lines_of f) out.old) }
 {
-    let mut words = [0u8; 1366];
-    let len = printing::lines_of(f, &mut words);
-    if out.len() < len {
-        return len;
+    let mut page: Page<1366> = Page::new();
+    printing::lines_of(&mut page, f);
+    let words = page.text();
+    if words.len() <= out.len() {
+        out[..words.len()].copy_from_slice(words);
     }
-    text::put_bytes(&mut *out, 0, &words[..len]);
-    len
+    words.len()
 }
 
 // The report on a file: its text, and zeros behind it.
@@ -45,7 +43,7 @@ pub fn report_of(bytes: &[u8]) -> Report
 pub fn report_into(bytes: &[u8], out: &mut [u8]) -> usize
     ensures { (result ≡ length (report bytes.now)) × (out.new ≡ report_into (report bytes.now) out.old) }
 {
-    text_into(verdict::findings_of(bytes), &mut *out)
+    text_into(verdict::findings_of(bytes), out)
 }
 
 // The sharp report on a file.
@@ -59,5 +57,5 @@ pub fn sharp_report_of(bytes: &[u8]) -> Report
 pub fn sharp_report_into(bytes: &[u8], out: &mut [u8]) -> usize
     ensures { (result ≡ length (sharp_report bytes.now)) × (out.new ≡ report_into (sharp_report bytes.now) out.old) }
 {
-    text_into(sharp::sharp_findings_of(bytes), &mut *out)
+    text_into(sharp::sharp_findings_of(bytes), out)
 }

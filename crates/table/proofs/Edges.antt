@@ -9,12 +9,11 @@ use native.Mathlib.Numerals.{add-one}
 use native.Mathlib.Decide.{ℕ_discrete}
 use lib.ListN.{length, drop}
 use Rattle.table.specs.declared.Outcome.TheVariants.{Read}
-use Rattle.table.specs.declared.EdgesRead.{EdgesRead}
 use Rattle.graph.specs.Words.{row, those_below, is_in}
 use Rattle.graph.specs.Graph.{edge}
 use Rattle.graph.proofs.Facts.{clash, off_when, other_in}
 use Rattle.table.specs.Memory.{no_succ, succ}
-use Rattle.table.specs.Reading.{edge_at, add_edge, edges_at}
+use Rattle.table.specs.Reading.{EdgesRead, edge_at, add_edge, edges_at}
 use Rattle.table.specs.Writing.{edge_bytes}
 use Rattle.table.proofs.Bits.{no_edge}
 use Rattle.table.proofs.Ascending.{Asc, empty, picked_out}

@@ -12,8 +12,7 @@ use lib.Dec.{ltb, leb, eqb}
 use borrow.Author.Tests.{leb-true, ltb-true, eqb-true}
 use Rattle.table.specs.declared.Outcome.{Outcome}
 use Rattle.table.specs.declared.Outcome.TheVariants.{Short, Mark, Range, Ticks, Order, Edge}
-use Rattle.table.specs.declared.Field.{Field}
-use Rattle.table.specs.declared.Field.TheVariants.{Stop, Got}
+use Rattle.std.specs.Prelude.{Result, Ok, Err}
 use Rattle.graph.specs.Words.{pick}
 use Rattle.graph.proofs.Facts.{both_true}
 use Rattle.table.specs.Reading.{field, mark_at, ranged, byte_at, value4, ticks_at, not_under, period_at, edge_ok, edge_at}
@@ -28,20 +27,20 @@ Bytes s = (i : ℕ) → get_or s i 0 < 256
 next : (s : List ℕ) (at : ℕ) → at < length s → drop at s ≡ get_or s at 0 ∷ drop (at + 1) s
 next s at h = drop-cons s at 0 h ∙ ap (λ (k : ℕ). get_or s at 0 ∷ drop k s) (sym (add-one at))
 
-pub stop_got : {X : Type 0} (o : Outcome) (x : ℕ) → Stop o ≡ Got x → X
+pub stop_got : {X : Type 0} (o : Outcome) (x : ℕ) → Err o ≡ Ok x → X
 stop_got o x e = let z : ◌≡◌ {A = ℕ} 0 1 = cc in absurd (omega arith)
 
-pub field_got : (size : ℕ) (s : List ℕ) (at : ℕ) (rules : Field) (x : ℕ) → field size s at rules ≡ Got x → (at + size ≤ length s) × (rules ≡ Got x)
+pub field_got : (size : ℕ) (s : List ℕ) (at : ℕ) (rules : Result ℕ Outcome) (x : ℕ) → field size s at rules ≡ Ok x → (at + size ≤ length s) × (rules ≡ Ok x)
 field_got size s at rules x e = ⊎_elim (λ z. (z.0, sym z.1 ∙ e)) (λ z. stop_got (Short at) x (sym z.1 ∙ e)) (field_cases size s at rules)
 
-pub pick_got : (b : Bool) (y : ℕ) (o : Outcome) (x : ℕ) → pick b (Got y) (Stop o) ≡ Got x → (b ≡ true) × (y ≡ x)
+pub pick_got : (b : Bool) (y : ℕ) (o : Outcome) (x : ℕ) → pick b (Ok y) (Err o) ≡ Ok x → (b ≡ true) × (y ≡ x)
 pick_got true y o x e = (refl, cc)
 pick_got false y o x e = stop_got o x e
 
 pub at_sum : (s : List ℕ) (a b : ℕ) → a ≡ b → drop a s ≡ drop b s
 at_sum s a b e = ap (λ (k : ℕ). drop k s) e
 
-pub mark_bytes : (b : ℕ) (s : List ℕ) (at x : ℕ) → mark_at b s at ≡ Got x → drop at s ≡ 0x54 ∷ b ∷ drop (at + 2) s
+pub mark_bytes : (b : ℕ) (s : List ℕ) (at x : ℕ) → mark_at b s at ≡ Ok x → drop at s ≡ 0x54 ∷ b ∷ drop (at + 2) s
 unfolding mark_at
 mark_bytes b s at x e =
     let f = field_got 2 s at _ x e in
@@ -54,7 +53,7 @@ mark_bytes b s at x e =
     let q = at_sum s (at + 1 + 1) (at + 2) (omega arith) in
     n₁ ∙ cc
 
-pub byte_bytes : (lo hi : ℕ) (s : List ℕ) (at x : ℕ) → byte_at lo hi s at ≡ Got x → drop at s ≡ x ∷ drop (at + 1) s
+pub byte_bytes : (lo hi : ℕ) (s : List ℕ) (at x : ℕ) → byte_at lo hi s at ≡ Ok x → drop at s ≡ x ∷ drop (at + 1) s
 unfolding byte_at ranged
 byte_bytes lo hi s at x e =
     let f = field_got 1 s at _ x e in
@@ -83,7 +82,7 @@ digits x a b c d ha hb hc hd e =
     let q₃ = over₃ x (a + 256 * b + 65536 * c) d (omega arith) (omega arith) in
     (digit x a (b + 256 * c + 65536 * d) ha (omega arith), digit (x / 256) b (c + 256 * d) hb (omega arith), digit (x / 65536) c d hc (omega arith), digit (x / 16777216) d 0 hd (omega arith))
 
-pub ticks_bytes : (lo : ℕ) (s : List ℕ) (at x : ℕ) → Bytes s → ticks_at lo s at ≡ Got x → drop at s ≡ bytes4 x ++ drop (at + 4) s
+pub ticks_bytes : (lo : ℕ) (s : List ℕ) (at x : ℕ) → Bytes s → ticks_at lo s at ≡ Ok x → drop at s ≡ bytes4 x ++ drop (at + 4) s
 unfolding ticks_at ranged value4 bytes4
 ticks_bytes lo s at x b e =
     let f = field_got 4 s at _ x e in
@@ -109,20 +108,20 @@ ticks_bytes lo s at x b e =
     let n₃ = next s (at + 3) (omega arith) ∙ ap (λ (z : List ℕ). a₃ ∷ z) (at_sum s (at + 3 + 1) (at + 4) (omega arith)) in
     n₀ ∙ cc
 
-pub period_is : (d : ℕ) (s : List ℕ) (at t : ℕ) → period_at d s at ≡ Got t → ticks_at 1 s at ≡ Got t
+pub period_is : (d : ℕ) (s : List ℕ) (at t : ℕ) → period_at d s at ≡ Ok t → ticks_at 1 s at ≡ Ok t
 unfolding period_at not_under
 period_is d s at t e = go (ticks_at 1 s at) e
   where
-    go : (f : Field) → not_under d at f ≡ Got t → f ≡ Got t
-    go (Stop o) e = stop_got o t e
-    go (Got x) e = ap Got (pick_got (leb d (4 * x)) x (Order at) t e).1
+    go : (f : Result ℕ Outcome) → not_under d at f ≡ Ok t → f ≡ Ok t
+    go (Err o) e = stop_got o t e
+    go (Ok x) e = ap Ok (pick_got (leb d (4 * x)) x (Order at) t e).1
 
 pub record EdgeIs (v low : ℕ) (s : List ℕ) (at key : ℕ) : Type 0 where
   pub low_is : low ≤ key
   pub under : key < 16 * v
   pub bytes : drop at s ≡ key / 16 ∷ key % 16 ∷ drop (at + 2) s
 
-pub edge_is : (v low : ℕ) (s : List ℕ) (at key : ℕ) → v ≤ 16 → edge_at v low s at ≡ Got key → EdgeIs v low s at key
+pub edge_is : (v low : ℕ) (s : List ℕ) (at key : ℕ) → v ≤ 16 → edge_at v low s at ≡ Ok key → EdgeIs v low s at key
 unfolding edge_at edge_ok
 edge_is v low s at key hv e =
     let f = field_got 2 s at _ key e in

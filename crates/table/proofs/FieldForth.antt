@@ -7,7 +7,7 @@ use native.Mathlib.Nat.{add-zero}
 use lib.ListN.{length, get_or, drop, length-drop}
 use lib.Seq.{drop-drop, get_or-drop}
 use borrow.Author.Tests.{le-leb, eq-eqb}
-use Rattle.table.specs.declared.Field.TheVariants.{Got}
+use Rattle.std.specs.Prelude.{Ok}
 use Rattle.table.specs.Reading.{field, mark_at, ranged, byte_at, value4, ticks_at}
 use Rattle.table.specs.Writing.{bytes4}
 
@@ -28,14 +28,14 @@ module _ (s : List ℕ) (at x : ℕ) (r : List ℕ) (e : drop at s ≡ x ∷ r) 
 pub at_eq : (s : List ℕ) (a b : ℕ) (r : List ℕ) → a ≡ b → drop a s ≡ r → drop b s ≡ r
 at_eq s a b r q e = ap (λ (j : ℕ). drop j s) (sym q) ∙ e
 
-pub read_mark : (b : ℕ) (s : List ℕ) (at : ℕ) (r : List ℕ) → drop at s ≡ 0x54 ∷ b ∷ r → mark_at b s at ≡ Got 0
+pub read_mark : (b : ℕ) (s : List ℕ) (at : ℕ) (r : List ℕ) → drop at s ≡ 0x54 ∷ b ∷ r → mark_at b s at ≡ Ok 0
 unfolding mark_at field
 read_mark b s at r e =
     let n = cell_next s at 0x54 (b ∷ r) e in
     let i = cell_in s (at + 1) b r n in
     rw (le-leb (at + 2) (length s) (omega arith), eq-eqb (get_or s at 0) 0x54 (cell s at 0x54 (b ∷ r) e), eq-eqb (get_or s (at + 1) 0) b (cell s (at + 1) b r n))
 
-pub read_byte : (lo hi : ℕ) (s : List ℕ) (at x : ℕ) (r : List ℕ) → lo ≤ x → x ≤ hi → drop at s ≡ x ∷ r → byte_at lo hi s at ≡ Got x
+pub read_byte : (lo hi : ℕ) (s : List ℕ) (at x : ℕ) (r : List ℕ) → lo ≤ x → x ≤ hi → drop at s ≡ x ∷ r → byte_at lo hi s at ≡ Ok x
 unfolding byte_at ranged field
 read_byte lo hi s at x r l h e =
     let i = cell_in s at x r e in
@@ -83,7 +83,7 @@ four_value s at x r h e =
     let d : get_or s (at + 3) 0 ≡ x / 16777216 % 256 = sym (get_or-drop at s 3 0) ∙ ap (λ (z : List ℕ). get_or z 3 0) e in
     digits x (get_or s at 0) (get_or s (at + 1) 0) (get_or s (at + 2) 0) (get_or s (at + 3) 0) h a b c d
 
-pub read_ticks : (lo : ℕ) (s : List ℕ) (at x : ℕ) (r : List ℕ) → lo ≤ x → x ≤ 1000000 → drop at s ≡ bytes4 x ++ r → ticks_at lo s at ≡ Got x
+pub read_ticks : (lo : ℕ) (s : List ℕ) (at x : ℕ) (r : List ℕ) → lo ≤ x → x ≤ 1000000 → drop at s ≡ bytes4 x ++ r → ticks_at lo s at ≡ Ok x
 unfolding ticks_at ranged field
 read_ticks lo s at x r l h e =
     rw (le-leb (at + 4) (length s) (four_in s at x r e), four_value s at x r (omega arith) e, le-leb lo x l, le-leb x 1000000 h)

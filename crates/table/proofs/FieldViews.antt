@@ -11,8 +11,7 @@ use lib.Dec.{ltb, leb, eqb}
 use borrow.Author.Tests.{leb-true, le-leb, ltb-true, lt-leb, eqb-false, not-true}
 use Rattle.table.specs.declared.Outcome.{Outcome}
 use Rattle.table.specs.declared.Outcome.TheVariants.{Read, Short, Mark, Range, Ticks, Order, Edge, Cycle, Extra}
-use Rattle.table.specs.declared.Field.{Field}
-use Rattle.table.specs.declared.Field.TheVariants.{Stop, Got}
+use Rattle.std.specs.Prelude.{Result, Ok, Err}
 use Rattle.graph.specs.Words.{pick}
 use Rattle.graph.proofs.Facts.{both_true}
 use Rattle.table.specs.Numbers.{number}
@@ -21,30 +20,35 @@ use Rattle.table.specs.Reading.{onward, when_read, field, mark_at, ranged, byte_
 unfoldable pub Bad : Outcome → Type 0
 Bad o = o ≡ Read → ⊥
 
-pub data View (f : Field) (P : ℕ → Type 0) : Type 0 where
-  value : (x : ℕ) → f ≡ Got x → P x → View f P
-  halt : (o : Outcome) → f ≡ Stop o → Bad o → View f P
+pub data View (f : Result ℕ Outcome) (P : ℕ → Type 0) : Type 0 where
+  value : (x : ℕ) → f ≡ Ok x → P x → View f P
+  halt : (o : Outcome) → f ≡ Err o → Bad o → View f P
+
+pub halted : {P : ℕ → Type 0} (f : Result ℕ Outcome) → View f P → (o : Outcome) → Err o ≡ f → o ≡ Read → ⊥
+unfolding Bad
+halted f (value x e q) o h = let z : ◌≡◌ {A = ℕ} 0 1 = cc in absurd (omega arith)
+halted f (halt p e n) o h = let z : o ≡ p = cc in λ r. n (sym z ∙ r)
 
 pub bad_by : (o : Outcome) (k : ℕ) → number o ≡ suc k → Bad o
 unfolding Bad number
 bad_by o k e q = let z : number o ≡ 0 = ap number q in absurd (omega arith)
 
 -- "For each field 1 is tested first": it lies within the input, or is refused at its first byte
-pub field_cases : (size : ℕ) (s : List ℕ) (at : ℕ) (rules : Field)
-    → ((at + size ≤ length s) × (field size s at rules ≡ rules)) ⊎ ((length s < at + size) × (field size s at rules ≡ Stop (Short at)))
+pub field_cases : (size : ℕ) (s : List ℕ) (at : ℕ) (rules : Result ℕ Outcome)
+    → ((at + size ≤ length s) × (field size s at rules ≡ rules)) ⊎ ((length s < at + size) × (field size s at rules ≡ Err (Short at)))
 unfolding field
-field_cases size s at rules = cases (at + size) (length s) rules (Stop (Short at))
+field_cases size s at rules = cases (at + size) (length s) rules (Err (Short at))
   where
-    cases : (k n : ℕ) (f g : Field) → ((k ≤ n) × (pick (leb k n) f g ≡ f)) ⊎ ((n < k) × (pick (leb k n) f g ≡ g))
+    cases : (k n : ℕ) (f g : Result ℕ Outcome) → ((k ≤ n) × (pick (leb k n) f g ≡ f)) ⊎ ((n < k) × (pick (leb k n) f g ≡ g))
     cases k n f g = elim (dec_le k n) [ yes h ↦ inl (h, rw (le-leb k n h)) | no h ↦ inr (omega arith, rw (lt-leb k n (omega arith))) ]
 
 module _ (P : ℕ → Type 0) where
-  field_view : (size : ℕ) (s : List ℕ) (at : ℕ) (rules : Field) → View rules P → View (field size s at rules) P
+  field_view : (size : ℕ) (s : List ℕ) (at : ℕ) (rules : Result ℕ Outcome) → View rules P → View (field size s at rules) P
   unfolding number
   field_view size s at rules v =
       ⊎_elim (λ z. rw z.1 v) (λ z. rw z.1 (halt (Short at) refl (bad_by (Short at) 0 refl))) (field_cases size s at rules)
 
-  pick_view : (b : Bool) (x : ℕ) (o : Outcome) → Bad o → (b ≡ true → P x) → View (pick b (Got x) (Stop o)) P
+  pick_view : (b : Bool) (x : ℕ) (o : Outcome) → Bad o → (b ≡ true → P x) → View (pick b (Ok x) (Err o)) P
   pick_view true x o h p = value x refl (p refl)
   pick_view false x o h p = halt o refl h
 
@@ -75,7 +79,7 @@ pub period_view : (d : ℕ) (s : List ℕ) (at : ℕ) → View (period_at d s at
 unfolding period_at not_under number
 period_view d s at = go (ticks_at 1 s at) (ticks_view 1 s at)
   where
-    go : (f : Field) → View f (Between 1 1000000) → View (not_under d at f) (Period d)
+    go : (f : Result ℕ Outcome) → View f (Between 1 1000000) → View (not_under d at f) (Period d)
     go f (value x e b) = rw e (pick_view (Period d) (leb d (4 * x)) x (Order at) (bad_by (Order at) 4 refl) (λ h. (b.0, b.1, leb-true d (4 * x) h)))
     go f (halt o e h) = rw e (halt o refl h)
 
@@ -104,12 +108,12 @@ edge_view v low s at h =
 
 -- ---- what follows a field, and a part, where all went well
 module _ {X : Type 0} (out : X → Outcome) (bad : Outcome → X) (same : (o : Outcome) → out (bad o) ≡ o) where
-  pub on_field : {P : ℕ → Type 0} (f : Field) → View f P → (go : ℕ → X) (r : X) → out r ≡ Read → r ≡ onward f bad go
-      → (x : ℕ) × (f ≡ Got x) × P x × (r ≡ go x)
+  pub on_field : {P : ℕ → Type 0} (f : Result ℕ Outcome) → View f P → (go : ℕ → X) (r : X) → out r ≡ Read → r ≡ onward f bad go
+      → (x : ℕ) × (f ≡ Ok x) × P x × (r ≡ go x)
   unfolding Bad
-  on_field f (value x e q) go r h k = (x, e, q, k ∙ ap (λ (z : Field). onward z bad go) e)
+  on_field f (value x e q) go r h k = (x, e, q, k ∙ ap (λ (z : Result ℕ Outcome). onward z bad go) e)
   on_field f (halt o e q) go r h k =
-      absurd (q (sym (same o) ∙ ap out (sym (k ∙ ap (λ (z : Field). onward z bad go) e)) ∙ h))
+      absurd (q (sym (same o) ∙ ap out (sym (k ∙ ap (λ (z : Result ℕ Outcome). onward z bad go) e)) ∙ h))
 
   pub went : (o : Outcome) (go : Unit {0} → X) (r : X) → out r ≡ Read → r ≡ when_read o bad go → (o ≡ Read) × (r ≡ go tt)
   unfolding Bad number

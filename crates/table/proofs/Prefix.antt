@@ -13,20 +13,19 @@ use borrow.Author.Tests.{le-leb, lt-leb, ne_eqb}
 use Rattle.table.specs.declared.Table.{Table}
 use Rattle.table.specs.declared.Outcome.{Outcome}
 use Rattle.table.specs.declared.Outcome.TheVariants.{Read, Short, Mark, Range, Ticks, Order, Edge, Cycle, Extra}
-use Rattle.table.specs.declared.Field.{Field}
-use Rattle.table.specs.declared.TaskRead.{TaskRead}
+use Rattle.std.specs.Prelude.{Result}
 use Rattle.table.specs.declared.TableRead.{TableRead}
 use Rattle.graph.specs.Words.{pick}
 use Rattle.table.specs.Memory.{no_succ, no_costs, succ}
-use Rattle.table.specs.Reading.{onward, when_read, field, mark_at, ranged, byte_at, value4, ticks_at, not_under, period_at, edge_at, costs_at, add_edge, edges_at, bad_task, parts_at, task_at, bad_table, with_task, tasks_at, table_at, refused, ending, read}
+use Rattle.table.specs.Reading.{TaskRead, onward, when_read, field, mark_at, ranged, byte_at, value4, ticks_at, not_under, period_at, edge_at, costs_at, add_edge, edges_at, bad_task, parts_at, task_at, bad_table, with_task, tasks_at, table_at, refused, ending, read}
 use Rattle.table.proofs.FieldViews.{View, mark_view, byte_view, ticks_view, period_view, edge_view, went, value, halt}
 use Rattle.table.proofs.Went.{out_table, task_went, none_yet, table_went}
 
 -- ---- what follows a field, and a part, over two lists
 module _ {X : Type 0} (bad : Outcome → X) where
-  pub on_both : {P : ℕ → Type 0} (f g : Field) → f ≡ g → View g P → (go by : ℕ → X) → ((x : ℕ) → P x → go x ≡ by x) → onward f bad go ≡ onward g bad by
-  on_both f g e (value x q p) go by h = ap (λ (z : Field). onward z bad go) (e ∙ q) ∙ h x p ∙ ap (λ (z : Field). onward z bad by) (sym q)
-  on_both f g e (halt o q n) go by h = ap (λ (z : Field). onward z bad go) (e ∙ q) ∙ ap (λ (z : Field). onward z bad by) (sym q)
+  pub on_both : {P : ℕ → Type 0} (f g : Result ℕ Outcome) → f ≡ g → View g P → (go by : ℕ → X) → ((x : ℕ) → P x → go x ≡ by x) → onward f bad go ≡ onward g bad by
+  on_both f g e (value x q p) go by h = ap (λ (z : Result ℕ Outcome). onward z bad go) (e ∙ q) ∙ h x p ∙ ap (λ (z : Result ℕ Outcome). onward z bad by) (sym q)
+  on_both f g e (halt o q n) go by h = ap (λ (z : Result ℕ Outcome). onward z bad go) (e ∙ q) ∙ ap (λ (z : Result ℕ Outcome). onward z bad by) (sym q)
 
   pub when_both : (o : Outcome) (go by : Unit {0} → X) → (o ≡ Read → go tt ≡ by tt) → when_read o bad go ≡ when_read o bad by
   when_both Read go by h = h refl

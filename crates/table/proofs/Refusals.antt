@@ -11,25 +11,21 @@ use Rattle.table.specs.declared.Table.{Table}
 use Rattle.table.specs.declared.Outcome.{Outcome}
 use Rattle.table.specs.declared.Outcome.TheVariants.{Read, Short, Mark, Range, Ticks, Order, Edge, Cycle, Extra}
 use Rattle.table.specs.declared.Loaded.{Loaded}
-use Rattle.table.specs.declared.Field.{Field}
-use Rattle.table.specs.declared.Field.TheVariants.{Stop, Got}
-use Rattle.table.specs.declared.CostsRead.{CostsRead}
-use Rattle.table.specs.declared.EdgesRead.{EdgesRead}
-use Rattle.table.specs.declared.TaskRead.{TaskRead}
+use Rattle.std.specs.Prelude.{Result, Ok, Err}
 use Rattle.table.specs.declared.TableRead.{TableRead}
 use Rattle.graph.specs.Words.{pick}
 use Rattle.graph.specs.Graph.{acyclic}
 use Rattle.table.specs.Memory.{no_succ, no_costs, no_table, succ}
 use Rattle.table.specs.Numbers.{number, place}
-use Rattle.table.specs.Reading.{onward, when_read, field, mark_at, ranged, byte_at, value4, ticks_at, not_under, period_at, edge_ok, edge_at, costs_at, add_edge, edges_at, bad_task, parts_at, task_at, bad_table, with_task, tasks_at, table_at, refused, ending, read}
+use Rattle.table.specs.Reading.{TaskRead, EdgesRead, CostsRead, onward, when_read, field, mark_at, ranged, byte_at, value4, ticks_at, not_under, period_at, edge_ok, edge_at, costs_at, add_edge, edges_at, bad_task, parts_at, task_at, bad_table, with_task, tasks_at, table_at, refused, ending, read}
 use Rattle.table.proofs.FieldViews.{Bad, bad_by, field_cases}
 use Rattle.table.proofs.Went.{out_task, out_table, out_loaded}
 use Rattle.table.proofs.FieldBytes.{stop_got}
 
 -- a field of `size` bytes at a place of n bytes: it lies within them, or is refused at a place of theirs
-data Placed (n after : ℕ) (f : Field) : Type 0 where
-  got : (x : ℕ) → f ≡ Got x → after ≤ n → Placed n after f
-  stopped : (o : Outcome) → f ≡ Stop o → Bad o → place o ≤ n → Placed n after f
+data Placed (n after : ℕ) (f : Result ℕ Outcome) : Type 0 where
+  got : (x : ℕ) → f ≡ Ok x → after ≤ n → Placed n after f
+  stopped : (o : Outcome) → f ≡ Err o → Bad o → place o ≤ n → Placed n after f
 
 -- a part of the file: its refusal has a place of theirs, or it ends within them
 abbrev Reach : ℕ → ℕ → Outcome → Type 0
@@ -39,15 +35,15 @@ Reach n after o = (place o ≤ n) × (o ≡ Read → after ≤ n)
 abbrev StopsAt : ℕ → Outcome → Type 0
 StopsAt at o = Bad o × (place o ≡ at)
 
-field_placed : (size : ℕ) (s : List ℕ) (at : ℕ) → at ≤ length s → (rules : Field) → ((o : Outcome) → rules ≡ Stop o → StopsAt at o) → Placed (length s) (at + size) (field size s at rules)
+field_placed : (size : ℕ) (s : List ℕ) (at : ℕ) → at ≤ length s → (rules : Result ℕ Outcome) → ((o : Outcome) → rules ≡ Err o → StopsAt at o) → Placed (length s) (at + size) (field size s at rules)
 unfolding number place
 field_placed size s at h rules p = ⊎_elim (λ z. rw z.1 (go z.0 rules p)) (λ z. rw z.1 (stopped (Short at) refl (bad_by (Short at) 0 refl) h)) (field_cases size s at rules)
   where
-    go : at + size ≤ length s → (f : Field) → ((o : Outcome) → f ≡ Stop o → StopsAt at o) → Placed (length s) (at + size) f
-    go l (Got x) p = got x refl l
-    go l (Stop o) p = let q = p o refl in stopped o refl q.0 (omega (arith, q.1))
+    go : at + size ≤ length s → (f : Result ℕ Outcome) → ((o : Outcome) → f ≡ Err o → StopsAt at o) → Placed (length s) (at + size) f
+    go l (Ok x) p = got x refl l
+    go l (Err o) p = let q = p o refl in stopped o refl q.0 (omega (arith, q.1))
 
-pick_stops : (b : Bool) (x at : ℕ) (o : Outcome) → StopsAt at o → (q : Outcome) → pick b (Got x) (Stop o) ≡ Stop q → StopsAt at q
+pick_stops : (b : Bool) (x at : ℕ) (o : Outcome) → StopsAt at o → (q : Outcome) → pick b (Ok x) (Err o) ≡ Err q → StopsAt at q
 pick_stops true x at o h q e = stop_got q x (sym e)
 pick_stops false x at o h q e = let z : o ≡ q = cc in subst (StopsAt at) z h
 
@@ -72,11 +68,11 @@ module _ (s : List ℕ) where
   unfolding period_at not_under number place
   period_placed d at h = go (ticks_at 1 s at) (ticks_placed 1 at h)
     where
-      also : (b : Bool) (x : ℕ) → at + 4 ≤ length s → Placed (length s) (at + 4) (pick b (Got x) (Stop (Order at)))
+      also : (b : Bool) (x : ℕ) → at + 4 ≤ length s → Placed (length s) (at + 4) (pick b (Ok x) (Err (Order at)))
       also true x l = got x refl l
       also false x l = stopped (Order at) refl (bad_by (Order at) 4 refl) h
 
-      go : (f : Field) → Placed (length s) (at + 4) f → Placed (length s) (at + 4) (not_under d at f)
+      go : (f : Result ℕ Outcome) → Placed (length s) (at + 4) f → Placed (length s) (at + 4) (not_under d at f)
       go f (got x e l) = rw e (also (leb d (4 * x)) x l)
       go f (stopped o e b p) = rw e (stopped o refl b p)
 
@@ -86,7 +82,7 @@ module _ {X : Type 0} (out : X → Outcome) (bad : Outcome → X) (same : (o : O
   unfolding Bad
   stop_reach o after b p = rw (same o) (p, λ e. absurd (b e))
 
-  on_reach : (at : ℕ) (f : Field) → Placed n at f → (go : ℕ → X) (after : X → ℕ) → ((x : ℕ) → at ≤ n → Reach n (after (go x)) (out (go x)))
+  on_reach : (at : ℕ) (f : Result ℕ Outcome) → Placed n at f → (go : ℕ → X) (after : X → ℕ) → ((x : ℕ) → at ≤ n → Reach n (after (go x)) (out (go x)))
       → Reach n (after (onward f bad go)) (out (onward f bad go))
   on_reach at f (got x e l) go after h = rw e (h x l)
   on_reach at f (stopped o e b p) go after h = rw e (stop_reach o (after (bad o)) b p)

@@ -10,15 +10,11 @@ use lib.ListN.{length, get_or, set, length-set, replicate}
 use lib.Seq.{get_or-set_same, get_or-set_other, ext_get_or}
 use lib.Dec.{eqb}
 use Rattle.table.specs.declared.Outcome.{Outcome}
-use Rattle.table.specs.declared.Outcome.TheVariants.{Read}
-use Rattle.table.specs.declared.Field.{Field}
-use Rattle.table.specs.declared.Field.TheVariants.{Stop, Got}
-use Rattle.table.specs.declared.CostsRead.{CostsRead}
-use Rattle.table.specs.declared.TaskRead.{TaskRead}
+use Rattle.std.specs.Prelude.{Result, Ok, Err}
 use Rattle.graph.specs.Words.{pick}
 use Rattle.table.specs.Memory.{no_costs}
-use Rattle.table.specs.Reading.{onward, ticks_at, costs_at, bad_task, put_costs}
-use Rattle.table.specs.Parts.{InRow, ZeroFrom}
+use Rattle.table.specs.Reading.{CostsRead, onward, ticks_at, costs_at, put_costs}
+use Rattle.table.specs.Parts.{ZeroFrom}
 use Rattle.table.proofs.Bits.{zeros_at}
 use Rattle.table.proofs.Costs.{put_length, put_at, put_other}
 
@@ -62,10 +58,10 @@ put_set row i own u x hi hu n =
 abbrev placed : List ℕ → ℕ → CostsRead → CostsRead
 placed row i c = record { outcome = c.outcome; costs = put_costs row i c.costs }
 
-after_field : (row : List ℕ) (i : ℕ) (own : List ℕ) (f : Field) (there here : ℕ → CostsRead) → ((x : ℕ) → there x ≡ placed row i (here x))
+after_field : (row : List ℕ) (i : ℕ) (own : List ℕ) (f : Result ℕ Outcome) (there here : ℕ → CostsRead) → ((x : ℕ) → there x ≡ placed row i (here x))
     → onward f (λ o. record { outcome = o; costs = put_costs row i own }) there ≡ placed row i (onward f (λ o. record { outcome = o; costs = own }) here)
-after_field row i own (Stop o) there here h = refl
-after_field row i own (Got x) there here h = h x
+after_field row i own (Err o) there here h = refl
+after_field row i own (Ok x) there here h = h x
 
 into_row : (s : List ℕ) (k at u i : ℕ) (row own : List ℕ) → i < 16 → u + k ≤ 16 → length own ≡ 16
     → costs_at s k at (16 * i + u) (put_costs row i own) ≡ placed row i (costs_at s k at u own)
@@ -84,16 +80,6 @@ unfolding no_costs
 costs_in_row s k at i row hi hk n z =
     let e : 16 * i ≡ 16 * i + 0 = omega arith in
     ap₂ (λ (j : ℕ) (r : List ℕ). costs_at s k at j r) e (put_nothing row i n z) ∙ into_row s k at 0 i row (replicate 16 0) hi (omega arith) refl
-
--- ---- the row after a task that was refused: before its costs, and later
-module _ (o : Outcome) (x : TaskRead) (h : bad_task o ≡ x) (i : ℕ) (row : List ℕ) where
-  pub same_in_row : length row ≡ 256 → ZeroFrom (16 * i) row → InRow x i row row
-  unfolding bad_task
-  same_in_row n z = λ e. put_nothing row i n z ∙ ap (λ (r : TaskRead). put_costs row i r.costs) h
-
-  pub bad_in_row : (after : List ℕ) → (o ≡ Read → ⊥) → InRow x i row after
-  unfolding bad_task
-  bad_in_row after n = λ e. absurd (n (ap (λ (r : TaskRead). r.outcome) h ∙ e))
 
 -- ---- the row after a task: the places of the later ones are still zero
 pub zero_after : (row : List ℕ) (i : ℕ) (own after : List ℕ) → length row ≡ 256 → ZeroFrom (16 * i) row → after ≡ put_costs row i own

@@ -11,14 +11,12 @@ use lib.Dec.{leb}
 use Rattle.table.specs.declared.Table.{Table}
 use Rattle.table.specs.declared.Outcome.{Outcome}
 use Rattle.table.specs.declared.Outcome.TheVariants.{Read, Ticks}
-use Rattle.table.specs.declared.Field.TheVariants.{Got}
-use Rattle.table.specs.declared.CostsRead.{CostsRead}
-use Rattle.table.specs.declared.TaskRead.{TaskRead}
+use Rattle.std.specs.Prelude.{Ok}
 use Rattle.table.specs.declared.TableRead.{TableRead}
 use Rattle.graph.specs.Words.{is_in, join_from, in_order}
 use Rattle.graph.specs.Graph.{acyclic}
 use Rattle.table.specs.Memory.{no_succ, no_costs, vertices, D, T, succ, edge_in, cost}
-use Rattle.table.specs.Reading.{ranged, byte_at, value4, ticks_at, costs_at, edges_at, task_at, bad_table, with_task, tasks_at, table_at, read}
+use Rattle.table.specs.Reading.{TaskRead, CostsRead, ranged, byte_at, value4, ticks_at, costs_at, edges_at, task_at, bad_table, with_task, tasks_at, table_at, read}
 use Rattle.table.specs.Writing.{bytes4, edge_keys, edge_bytes, encode_task, encode, unused_zero}
 use Rattle.table.specs.Good.{GoodTask, GoodTable, Typed}
 use Rattle.table.proofs.Successors.{add_all, Rows}
@@ -32,10 +30,10 @@ use Rattle.table.proofs.Places.{at_v, at_e, at_D, at_T, at_costs, at_edges, task
 use Rattle.table.proofs.Unused.{spare_vertex, spare_cost, spare_task}
 
 -- ---- a field that was read where a value stands has that value
-byte_was : (lo hi : ℕ) (s : List ℕ) (at x y : ℕ) (r : List ℕ) → byte_at lo hi s at ≡ Got x → drop at s ≡ y ∷ r → x ≡ y
+byte_was : (lo hi : ℕ) (s : List ℕ) (at x y : ℕ) (r : List ℕ) → byte_at lo hi s at ≡ Ok x → drop at s ≡ y ∷ r → x ≡ y
 byte_was lo hi s at x y r g e = let z : x ∷ drop (at + 1) s ≡ y ∷ r = sym (byte_bytes lo hi s at x g) ∙ e in cc
 
-ticks_was : (lo : ℕ) (s : List ℕ) (at x y : ℕ) (r : List ℕ) → ticks_at lo s at ≡ Got x → y < 2 ^ 32 → drop at s ≡ bytes4 y ++ r → x ≡ y
+ticks_was : (lo : ℕ) (s : List ℕ) (at x y : ℕ) (r : List ℕ) → ticks_at lo s at ≡ Ok x → y < 2 ^ 32 → drop at s ≡ bytes4 y ++ r → x ≡ y
 unfolding ticks_at ranged
 ticks_was lo s at x y r g h e =
     let f = field_got 4 s at _ x g in

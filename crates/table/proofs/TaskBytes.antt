@@ -8,13 +8,10 @@ use lib.ListN.{length, get_or, set, drop, length-set}
 use lib.Seq.{get_or-set_same}
 use Rattle.table.specs.declared.Task.{Task}
 use Rattle.table.specs.declared.Outcome.TheVariants.{Read}
-use Rattle.table.specs.declared.CostsRead.{CostsRead}
-use Rattle.table.specs.declared.EdgesRead.{EdgesRead}
-use Rattle.table.specs.declared.TaskRead.{TaskRead}
 use Rattle.graph.specs.Words.{those_below, join_from, in_order}
 use Rattle.graph.specs.Graph.{edge}
 use Rattle.table.specs.Memory.{no_succ, no_costs}
-use Rattle.table.specs.Reading.{ticks_at, costs_at, edges_at, task_at}
+use Rattle.table.specs.Reading.{TaskRead, EdgesRead, CostsRead, ticks_at, costs_at, edges_at, task_at}
 use Rattle.table.specs.Writing.{bytes4, edge_bytes}
 use Rattle.table.proofs.Successors.{add_all}
 use Rattle.table.proofs.FieldViews.{ticks_view, on_field}

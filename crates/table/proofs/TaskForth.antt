@@ -13,7 +13,7 @@ use borrow.Author.Tests.{le-leb, lt-ltb, ne_eqb}
 use Rattle.table.specs.declared.Task.{Task}
 use Rattle.table.specs.declared.Table.{Table}
 use Rattle.table.specs.declared.Outcome.TheVariants.{Read}
-use Rattle.table.specs.declared.Field.TheVariants.{Got}
+use Rattle.std.specs.Prelude.{Ok}
 use Rattle.graph.specs.Words.{is_in, join_from}
 use Rattle.graph.proofs.Facts.{first_in, tail_in}
 use Rattle.table.specs.Memory.{no_succ, no_costs, task, vertices, D, T, succ, edge_in, cost}
@@ -61,7 +61,7 @@ fill_in (suc k) j f l c b h₁ h₂ =
     ]
 
 -- ---- edges
-read_edge : (v low : ℕ) (s : List ℕ) (at k : ℕ) (r : List ℕ) → low ≤ k → Ends v k → drop at s ≡ k / 16 ∷ k % 16 ∷ r → edge_at v low s at ≡ Got k
+read_edge : (v low : ℕ) (s : List ℕ) (at k : ℕ) (r : List ℕ) → low ≤ k → Ends v k → drop at s ≡ k / 16 ∷ k % 16 ∷ r → edge_at v low s at ≡ Ok k
 unfolding edge_at edge_ok field
 read_edge v low s at k r l o e =
     let n = cell_next s at (k / 16) (k % 16 ∷ r) e in

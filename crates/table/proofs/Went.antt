@@ -10,15 +10,12 @@ use Rattle.table.specs.declared.Table.{Table}
 use Rattle.table.specs.declared.Outcome.{Outcome}
 use Rattle.table.specs.declared.Outcome.TheVariants.{Read, Cycle, Extra}
 use Rattle.table.specs.declared.Loaded.{Loaded}
-use Rattle.table.specs.declared.Field.TheVariants.{Got}
-use Rattle.table.specs.declared.CostsRead.{CostsRead}
-use Rattle.table.specs.declared.EdgesRead.{EdgesRead}
-use Rattle.table.specs.declared.TaskRead.{TaskRead}
+use Rattle.std.specs.Prelude.{Ok}
 use Rattle.table.specs.declared.TableRead.{TableRead}
 use Rattle.graph.specs.Graph.{acyclic}
 use Rattle.table.specs.Memory.{no_succ, no_costs, no_tasks, no_row}
 use Rattle.table.specs.Numbers.{number}
-use Rattle.table.specs.Reading.{mark_at, byte_at, ticks_at, period_at, costs_at, edges_at, bad_task, parts_at, task_at, bad_table, tasks_at, table_at, refused, ending, read}
+use Rattle.table.specs.Reading.{TaskRead, EdgesRead, CostsRead, mark_at, byte_at, ticks_at, period_at, costs_at, edges_at, bad_task, parts_at, task_at, bad_table, tasks_at, table_at, refused, ending, read}
 use Rattle.table.proofs.FieldViews.{bad_by, Between, mark_view, byte_view, ticks_view, Period, period_view, on_field, went, passed}
 
 pub out_task : (o : Outcome) → (bad_task o).outcome ≡ o
@@ -40,14 +37,14 @@ pub record TaskWent (s : List ℕ) (at : ℕ) (r : TaskRead) : Type 0 where
   pub e : ℕ
   pub d : ℕ
   pub t : ℕ
-  pub mark_is : mark_at 0x4B s at ≡ Got x
-  pub v_is : byte_at 1 16 s (at + 2) ≡ Got v
+  pub mark_is : mark_at 0x4B s at ≡ Ok x
+  pub v_is : byte_at 1 16 s (at + 2) ≡ Ok v
   pub v_range : Between 1 16 v
-  pub e_is : byte_at 0 120 s (at + 3) ≡ Got e
+  pub e_is : byte_at 0 120 s (at + 3) ≡ Ok e
   pub e_range : Between 0 120 e
-  pub d_is : ticks_at 1 s (at + 4) ≡ Got d
+  pub d_is : ticks_at 1 s (at + 4) ≡ Ok d
   pub d_range : Between 1 1000000 d
-  pub t_is : period_at d s (at + 8) ≡ Got t
+  pub t_is : period_at d s (at + 8) ≡ Ok t
   pub t_range : Period d t
   pub costs_read : (costs_at s v (at + 12) 0 no_costs).outcome ≡ Read
   pub edges_read : (edges_at v s e (at + 12 + 4 * v) 0 no_succ).outcome ≡ Read
@@ -101,10 +98,10 @@ pub record TableWent (s : List ℕ) (at : ℕ) (r : TableRead) : Type 0 where
   pub x : ℕ
   pub m : ℕ
   pub n : ℕ
-  pub mark_is : mark_at 0x42 s at ≡ Got x
-  pub m_is : byte_at 1 8 s (at + 2) ≡ Got m
+  pub mark_is : mark_at 0x42 s at ≡ Ok x
+  pub m_is : byte_at 1 8 s (at + 2) ≡ Ok m
   pub m_range : Between 1 8 m
-  pub n_is : byte_at 1 16 s (at + 3) ≡ Got n
+  pub n_is : byte_at 1 16 s (at + 3) ≡ Ok n
   pub n_range : Between 1 16 n
   pub tasks_are : r ≡ tasks_at s n 0 (at + 4) (none_yet m n)
 

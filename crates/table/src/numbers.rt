@@ -4,64 +4,92 @@ ghost use Rattle.table.specs.Numbers.{number, place, writing_number, writing_pla
 
 use crate::{Outcome, Written};
 
-// Reading's number.
-#[tactic(auto, unfolding(crate::specs::Numbers::number))]
+impl Outcome {
+    // Reading's number.
+    #[tactic(auto, unfolding(crate::specs::Numbers::number))]
+    pub fn number(self) -> u8
+        ensures { result ≡ number self }
+    {
+        match self {
+            Outcome::Read => 0,
+            Outcome::Short(_) => 1,
+            Outcome::Mark(_) => 2,
+            Outcome::Range(_) => 3,
+            Outcome::Ticks(_) => 4,
+            Outcome::Order(_) => 5,
+            Outcome::Edge(_) => 6,
+            Outcome::Cycle(_) => 7,
+            Outcome::Extra(_) => 8,
+        }
+    }
+
+    // Reading's place.
+    #[tactic(auto, unfolding(crate::specs::Numbers::place))]
+    pub fn place(self) -> usize
+        ensures { result ≡ place self }
+    {
+        match self {
+            Outcome::Read => 0,
+            Outcome::Short(p)
+            | Outcome::Mark(p)
+            | Outcome::Range(p)
+            | Outcome::Ticks(p)
+            | Outcome::Order(p)
+            | Outcome::Edge(p)
+            | Outcome::Cycle(p)
+            | Outcome::Extra(p) => p,
+        }
+    }
+}
+
+impl Written {
+    // Writing's number.
+    #[tactic(auto, unfolding(crate::specs::Numbers::writing_number))]
+    pub fn number(self) -> u8
+        ensures { result ≡ writing_number self }
+    {
+        match self {
+            Written::Done(_) => 0,
+            Written::Refused(o) => o.number(),
+            Written::Unused => 10,
+            Written::Room(_) => 9,
+        }
+    }
+
+    // Writing's place.
+    #[tactic(auto, unfolding(crate::specs::Numbers::writing_place))]
+    pub fn place(self) -> usize
+        ensures { result ≡ writing_place self }
+    {
+        match self {
+            Written::Done(l) | Written::Room(l) => l,
+            Written::Refused(o) => o.place(),
+            Written::Unused => 0,
+        }
+    }
+}
+
+// The same as functions.
 pub fn number(o: Outcome) -> u8
     ensures { result ≡ number o }
 {
-    match o {
-        Outcome::Read => 0,
-        Outcome::Short(_) => 1,
-        Outcome::Mark(_) => 2,
-        Outcome::Range(_) => 3,
-        Outcome::Ticks(_) => 4,
-        Outcome::Order(_) => 5,
-        Outcome::Edge(_) => 6,
-        Outcome::Cycle(_) => 7,
-        Outcome::Extra(_) => 8,
-    }
+    o.number()
 }
 
-// Reading's place.
-#[tactic(auto, unfolding(crate::specs::Numbers::place))]
 pub fn place(o: Outcome) -> usize
     ensures { result ≡ place o }
 {
-    match o {
-        Outcome::Read => 0,
-        Outcome::Short(p) => p,
-        Outcome::Mark(p) => p,
-        Outcome::Range(p) => p,
-        Outcome::Ticks(p) => p,
-        Outcome::Order(p) => p,
-        Outcome::Edge(p) => p,
-        Outcome::Cycle(p) => p,
-        Outcome::Extra(p) => p,
-    }
+    o.place()
 }
 
-// Writing's number.
-#[tactic(auto, unfolding(crate::specs::Numbers::writing_number))]
 pub fn writing_number(w: Written) -> u8
     ensures { result ≡ writing_number w }
 {
-    match w {
-        Written::Done(_) => 0,
-        Written::Refused(o) => number(o),
-        Written::Unused => 10,
-        Written::Room(_) => 9,
-    }
+    w.number()
 }
 
-// Writing's place.
-#[tactic(auto, unfolding(crate::specs::Numbers::writing_place))]
 pub fn writing_place(w: Written) -> usize
     ensures { result ≡ writing_place w }
 {
-    match w {
-        Written::Done(l) => l,
-        Written::Refused(o) => place(o),
-        Written::Unused => 0,
-        Written::Room(l) => l,
-    }
+    w.place()
 }

@@ -1,15 +1,15 @@
 -- Laws of `laid`: its length, its byte at each place, one list after another, laying from the front.
-use mathlib.Core.Path.{◌≡◌, refl, sym, ap, ◌∙◌}
+use mathlib.Core.Path.{◌≡◌, refl, sym, ap, ap₂, ◌∙◌}
 use mathlib.Core.Bool.{Bool, true, false}
 use mathlib.Core.List.{List, [], ◌∷◌, ◌++◌}
-use Prim.Native.Nat.{ℕ, ◌+◌, ◌-◌, ◌≤◌, ◌<◌, min}
+use Prim.Native.Nat.{ℕ, ◌+◌, ◌-◌, ◌^◌, ◌≤◌, ◌<◌, min}
 use native.Mathlib.Omega.{arith}
 use native.Mathlib.Nat.{sub-zero}
-use native.Mathlib.Numerals.{add-one}
 use lib.Dec.{ltb}
-use lib.ListN.{length, get_or, take, drop, set, length-append, length-take, length-drop, length-set, get_or-append}
-use lib.Seq.{ext_get_or, get_or-append-add, get_or-take, get_or-drop, get_or-set_same, get_or-set_other, take-append_seam, take-suc, take_all}
+use lib.ListN.{length, get_or, take, drop, length-append, length-take, length-drop, get_or-append}
+use lib.Seq.{ext_get_or, get_or-append-add, get_or-take, get_or-drop}
 use borrow.Author.Tests.{ltb-true, ltb-false, lt-ltb, le-ltb, le-leb, lt-leb}
+use Rattle.std.proofs.lemmas.List.{get_or_append_left, get_or-append_right}
 use Rattle.graph.specs.Words.{pick}
 use Rattle.graph.proofs.Facts.{length_row, row_at}
 use Rattle.text.specs.Laid.{within, laid}
@@ -125,45 +125,46 @@ laid_cut buf at n l o = same_bytes buf (laid buf at (take n l)) (laid buf at l) 
         laid_inside buf at (take n l) k h i (omega (arith, short)) ∙ get_or-take n l (k - at) 0 (omega arith) ∙ sym (laid_inside buf at l k h i j)
     go k h (after i) = laid_after buf at (take n l) k h (omega (arith, short)) ∙ sym (laid_after buf at l k h i)
 
--- ---- one byte
-pub laid_one : (buf : List ℕ) (at b : ℕ) → at < length buf → laid buf at (b ∷ []) ≡ set buf at b
-laid_one buf at b o = same_bytes buf (laid buf at (b ∷ [])) (set buf at b) (length_laid buf at (b ∷ [])) (length-set buf at b)
-    (λ k h. go k h (where_is at 1 k))
+-- ---- a byte, then a list from the next place on: where that place would be no number of 64 bits, nothing of either falls inside
+pub one_then : (buf : List ℕ) (at b next : ℕ) (l mid : List ℕ) → mid ≡ laid buf at (b ∷ []) → next ≡ min (at + 1) (2 ^ 64 - 1) → length buf < 2 ^ 64
+    → laid mid next l ≡ laid buf at (b ∷ l)
+one_then buf at b next l mid e f h = go (ltb (at + 1) (2 ^ 64)) refl
   where
-    go : (k : ℕ) → k < length buf → Where at 1 k → get_or (laid buf at (b ∷ [])) k 0 ≡ get_or (set buf at b) k 0
-    go k h (before i) = laid_before buf at (b ∷ []) k h i ∙ sym (get_or-set_other buf at k b 0 (λ e. omega arith))
+    go : (t : Bool) → ltb (at + 1) (2 ^ 64) ≡ t → laid mid next l ≡ laid buf at (b ∷ l)
+    go true g =
+        let i = ltb-true (at + 1) (2 ^ 64) g in
+        let n : next ≡ at + 1 = omega arith in
+        ap₂ (λ (x : List ℕ) (k : ℕ). laid x k l) e n ∙ laid_then buf at (b ∷ []) l
+    go false g =
+        let i = ltb-false (at + 1) (2 ^ 64) g in
+        let o : length buf ≤ at = omega arith in
+        laid_outside mid next l (omega (arith, ap length e, length_laid buf at (b ∷ []))) ∙ e ∙ laid_outside buf at (b ∷ []) o ∙ sym (laid_outside buf at (b ∷ l) o)
+
+-- ---- as the code lays it: what fits of the list stands between what stood before it and what stands after
+pub laid_mid : (buf : List ℕ) (at : ℕ) (l : List ℕ) (from n : ℕ) → from ≡ min at (length buf) → n ≡ min (length l) (length buf - from)
+    → take from buf ++ (take n l ++ drop n (drop from buf)) ≡ laid buf at l
+laid_mid buf at l from n e f = same_bytes buf (take from buf ++ (take n l ++ drop n (drop from buf))) (laid buf at l) long (length_laid buf at l)
+    (λ k h. go k h (where_is at (length l) k))
+  where
+    front : length (take from buf) ≡ from
+    front = omega (arith, length-take from buf)
+
+    mid : length (take n l) ≡ n
+    mid = omega (arith, length-take n l)
+
+    long : length (take from buf ++ (take n l ++ drop n (drop from buf))) ≡ length buf
+    long = simp (length-append, length-drop) (omega (arith, front, mid))
+
+    go : (k : ℕ) → k < length buf → Where at (length l) k → get_or (take from buf ++ (take n l ++ drop n (drop from buf))) k 0 ≡ get_or (laid buf at l) k 0
+    go k h (before i) =
+        get_or_append_left (take from buf) _ 0 k (omega (arith, front)) ∙ get_or-take from buf k 0 (omega arith) ∙ sym (laid_before buf at l k h i)
     go k h (inside i j) =
-        let e : k ≡ at = omega arith in
-        let z : k - at ≡ 0 = omega arith in
-        laid_inside buf at (b ∷ []) k h i j ∙ ap (λ (p : ℕ). get_or (b ∷ []) p 0) z ∙ sym (get_or-set_same buf at b 0 o) ∙ sym (ap (λ (p : ℕ). get_or (set buf at b) p 0) e)
-    go k h (after i) = laid_after buf at (b ∷ []) k h i ∙ sym (get_or-set_other buf at k b 0 (λ e. omega arith))
-
--- ---- a byte, then a list
-pub one_then : (buf : List ℕ) (at b : ℕ) (l mid : List ℕ) → mid ≡ laid buf at (b ∷ []) → laid mid (at + 1) l ≡ laid buf at (b ∷ l)
-one_then buf at b l mid e = ap (λ (x : List ℕ). laid x (at + 1) l) e ∙ laid_then buf at (b ∷ []) l
-
--- where the byte falls outside the buffer so does the list, wherever it starts
-pub one_outside : (buf : List ℕ) (at b : ℕ) (l mid : List ℕ) → mid ≡ laid buf at (b ∷ []) → length mid ≤ at → laid mid at l ≡ laid buf at (b ∷ l)
-one_outside buf at b l mid e o =
-    let h : length buf ≤ at = omega (arith, ap length e, length_laid buf at (b ∷ [])) in
-    laid_outside mid at l o ∙ e ∙ laid_outside buf at (b ∷ []) h ∙ sym (laid_outside buf at (b ∷ l) h)
-
--- ---- byte by byte: the first i of a list are laid, then i + 1
-pub laid_more : (buf : List ℕ) (at : ℕ) (l : List ℕ) (i : ℕ) → i < length l → at + i < length buf
-    → set (laid buf at (take i l)) (at + i) (get_or l i 0) ≡ laid buf at (take (i + 1) l)
-laid_more buf at l i h o =
-    let e : i ≡ length (take i l) = omega (arith, length-take i l) in
-    sym (laid_one (laid buf at (take i l)) (at + i) (get_or l i 0) (omega (arith, length_laid buf at (take i l))))
-    ∙ ap (λ (k : ℕ). laid (laid buf at (take i l)) (at + k) (get_or l i 0 ∷ [])) e ∙ laid_then buf at (take i l) (get_or l i 0 ∷ [])
-    ∙ ap (laid buf at) (sym (take-suc l i 0 h)) ∙ ap (λ (k : ℕ). laid buf at (take k l)) (sym (add-one i))
-
--- as many of them as there are, or as there is room for, are all
-pub laid_rest : (buf : List ℕ) (at : ℕ) (l : List ℕ) (i : ℕ) → min (length buf - at) (length l) ≤ i → laid buf at (take i l) ≡ laid buf at l
-laid_rest buf at l i h = go (ltb i (length l)) refl
-  where
-    go : (b : Bool) → ltb i (length l) ≡ b → laid buf at (take i l) ≡ laid buf at l
-    go true e = laid_cut buf at i l (omega (arith, ltb-true i (length l) e))
-    go false e = ap (laid buf at) (take_all i l (ltb-false i (length l) e))
+        get_or-append_right (take from buf) _ from k 0 front (omega arith) ∙ get_or_append_left (take n l) _ 0 (k - from) (omega (arith, mid))
+        ∙ get_or-take n l (k - from) 0 (omega arith) ∙ ap (λ (p : ℕ). get_or l p 0) (omega arith) ∙ sym (laid_inside buf at l k h i j)
+    go k h (after i) =
+        get_or-append_right (take from buf) _ from k 0 front (omega arith) ∙ get_or-append_right (take n l) _ n (k - from) 0 mid (omega arith)
+        ∙ get_or-drop n (drop from buf) (k - from - n) 0 ∙ get_or-drop from buf (n + (k - from - n)) 0 ∙ ap (λ (p : ℕ). get_or buf p 0) (omega arith)
+        ∙ sym (laid_after buf at l k h i)
 
 -- ---- from the front: the whole buffer, and what was laid
 pub laid_front : (buf l : List ℕ) → length l ≤ length buf → laid buf 0 l ≡ l ++ drop (length l) buf
@@ -180,6 +181,3 @@ laid_front buf l o = same_bytes buf (laid buf 0 l) (l ++ drop (length l) buf) (l
         let e : length l + (k - length l) ≡ k = omega arith in
         laid_after buf 0 l k h i ∙ sym (ap (λ (p : ℕ). get_or buf p 0) e) ∙ sym (get_or-drop (length l) buf (k - length l) 0)
         ∙ sym (get_or-append-add l (drop (length l) buf) (k - length l) 0) ∙ ap (λ (p : ℕ). get_or (l ++ drop (length l) buf) p 0) e
-
-pub laid_taken : (buf l : List ℕ) → length l ≤ length buf → take (length l) (laid buf 0 l) ≡ l
-laid_taken buf l o = ap (take (length l)) (laid_front buf l o) ∙ take-append_seam l (drop (length l) buf)

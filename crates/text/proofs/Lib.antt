@@ -1,6 +1,7 @@
--- Laws of `laid`, of lists put one behind another, of digits written from the last one on, and of signed numbers read by their sign.
+-- Laws of `laid`, of lists put one behind another and onto a page, of digits written from the last one on, and of signed numbers read by their sign.
 pub mod Laying
 pub mod Putting
+pub mod Pages
 pub mod Digits
 pub mod Sign
 -- What decimal and signed numbers mean.

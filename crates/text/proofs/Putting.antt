@@ -1,5 +1,5 @@
--- Text put into a buffer part after part: one list behind another, zeros behind the last, and the bounds that keep the places small.
-use mathlib.Core.Path.{◌≡◌, refl, sym, ap, ap₂, subst, ◌∙◌}
+-- List after list, how long they are together, and zeros behind the last.
+use mathlib.Core.Path.{◌≡◌, refl, sym, ap, ◌∙◌}
 use mathlib.Core.List.{List, [], ◌++◌, append-nil, append_assoc}
 use Prim.Native.Nat.{ℕ, zero, suc, ◌+◌, ◌*◌, ◌-◌, ◌≤◌, ◌<◌}
 use native.Mathlib.Omega.{arith}
@@ -7,37 +7,8 @@ use native.Mathlib.Nat.{add-zero, zero-add, mul-suc}
 use native.Mathlib.Numerals.{add-one}
 use lib.ListN.{length, drop, replicate, length-append, length-replicate}
 use Rattle.graph.specs.Words.{join_from, in_order}
-use Rattle.text.specs.Text.{decimal}
-use Rattle.text.specs.Laid.{laid, Put}
-use Rattle.text.proofs.Laying.{length_laid, laid_none, laid_then, laid_front}
-use Rattle.text.proofs.Decimal.{decimal_length}
-
--- one list, and another behind it
-pub put_then : {buf l mid m after : List ℕ} {at p next : ℕ} → Put buf at l mid p → Put mid p m after next → Put buf at (l ++ m) after next
-put_then {buf} {l} {mid} {m} {after} {at} {p} {next} a b = record {
-  holds = b.holds ∙ ap₂ (λ (x : List ℕ) (q : ℕ). laid x q m) a.holds a.behind ∙ laid_then buf at l m;
-  behind = omega (arith, a.behind, b.behind, length-append l m);
-}
-
--- the same list in other words
-pub put_same : {buf l m after : List ℕ} {at next : ℕ} → Put buf at l after next → l ≡ m → Put buf at m after next
-put_same {buf} {l} {m} {after} {at} {next} a e = subst (λ (x : List ℕ). Put buf at x after next) e a
-
--- nothing yet
-pub put_none : (buf : List ℕ) (at : ℕ) → Put buf at [] buf at
-put_none buf at = record { holds = sym (laid_none buf at); behind = sym (add-zero at) }
-
--- the buffer keeps its length
-pub put_long : {buf l after : List ℕ} {at next : ℕ} → Put buf at l after next → length after ≡ length buf
-put_long {buf} {l} {after} {at} a = ap length a.holds ∙ length_laid buf at l
-
--- a list that was laid, and how many places on
-pub put_on : {buf l after : List ℕ} {at n : ℕ} → after ≡ laid buf at l → n ≡ length l → Put buf at l after (at + n)
-put_on {at = at} e q = record { holds = e; behind = ap (λ (k : ℕ). at + k) q }
-
--- a number has at most twenty digits
-pub decimal_within : (n x : ℕ) → n ≡ length (decimal x) → n ≤ 20
-decimal_within n x e = omega (arith, (decimal_length x).1)
+use Rattle.text.specs.Laid.{laid}
+use Rattle.text.proofs.Laying.{laid_front}
 
 -- ---- list after list
 join_more : (k i : ℕ) (f : ℕ → List ℕ) → join_from k i f ++ f (i + k) ≡ join_from (suc k) i f

@@ -13,7 +13,7 @@ use Rattle.table.specs.declared.Task.{Task}
 use Rattle.table.specs.declared.Table.{Table}
 use Rattle.table.specs.declared.Outcome.{Outcome}
 use Rattle.table.specs.declared.Outcome.TheVariants.{Read, Range}
-use Rattle.table.specs.declared.Field.TheVariants.{Stop, Got}
+use Rattle.std.specs.Prelude.{Ok, Err}
 use Rattle.checks.specs.declared.Checked.{Checked}
 use Rattle.table.specs.Memory.{task}
 use Rattle.table.specs.Reading.{onward, when_read, ranged}
@@ -30,7 +30,7 @@ past_range : (lo hi at x : ℕ) (g : ℕ → Checked) → (onward (ranged Range 
 unfolding ranged stopped
 past_range lo hi at x g = go (leb lo x && leb x hi) refl
   where
-    go : (b : Bool) → leb lo x && leb x hi ≡ b → (onward (pick b (Got x) (Stop (Range at))) stopped g).outcome ≡ Read → (x ≤ hi) × ((g x).outcome ≡ Read)
+    go : (b : Bool) → leb lo x && leb x hi ≡ b → (onward (pick b (Ok x) (Err (Range at))) stopped g).outcome ≡ Read → (x ≤ hi) × ((g x).outcome ≡ Read)
     go true e h = (leb-true x hi (both_true (leb lo x) (leb x hi) e).1, h)
     go false e h = absurd (range_bad at h)
 

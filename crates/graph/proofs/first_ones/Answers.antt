@@ -1,5 +1,4 @@
 use native.Mathlib.Omega.{arith}
-use borrow.Author.Rules.{rules}
 use Rattle.graph.proofs.Sets.{all_sixteen, only_first, one_least}
 use Rattle.graph.proofs.first_ones.Goals as goal
 

@@ -1,9 +1,9 @@
-use mathlib.Core.Path.{◌≡◌, sym, ◌∙◌}
+use mathlib.Core.Path.{ap, sym, ◌∙◌}
 use Prim.Native.Nat.{◌<◌, ◌^◌}
 use native.Mathlib.Omega.{arith}
 use borrow.Author.Rules.{rules}
 use lib.Bits.{and_le_l}
-use Rattle.graph.specs.Graph.{acyclic}
+use Rattle.graph.proofs.Members.{full_and}
 use Rattle.graph.proofs.Settle.{comes_to_none, all_in_lem, round_on, round_end}
 use Rattle.graph.proofs.is_acyclic.Goals as goal
 
@@ -11,7 +11,8 @@ pub loop-left-init : goal.loop-left-init
 loop-left-init c =
     let s = c.args.succ in
     let f = c.led_from_all-left in
-    (omega (arith, and_le_l 65535 f.result), round_on s 65535 f.result f.ensures ∙ all_in_lem s)
+    let small : f.result < 2 ^ 16 = search rules in
+    (small, ap (comes_to_none s) (sym (full_and f.result small)) ∙ round_on s 65535 f.result f.ensures ∙ all_in_lem s)
 
 pub returns-then-next-left : goal.returns-then-next-left
 returns-then-next-left c =

@@ -1,11 +1,8 @@
 -- The loop's invariant: what is left comes to nothing just if the test passes.
-use mathlib.Core.Path.{◌≡◌, sym, ◌∙◌}
+use mathlib.Core.Path.{◌≡◌}
 use Prim.Native.Nat.{◌<◌, ◌^◌}
-use native.Mathlib.Omega.{arith}
-use borrow.Author.Rules.{rules}
-use lib.Bits.{and_le_l}
 use Rattle.graph.specs.Graph.{acyclic}
-use Rattle.graph.proofs.Settle.{comes_to_none, all_in_lem, round_on, round_end}
+use Rattle.graph.proofs.Settle.{comes_to_none}
 use Rattle.graph.proofs.is_acyclic.Given as goal
 
 abbrev pub invariant-loop-left : goal.invariant-loop-left

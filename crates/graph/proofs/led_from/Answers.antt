@@ -1,6 +1,4 @@
-use mathlib.Core.Path.{◌≡◌, ap, ◌∙◌}
-use Prim.Native.Nat.{ℕ}
-use native.Mathlib.Omega.{arith}
+use mathlib.Core.Path.{◌∙◌}
 use borrow.Author.Rules.{rules}
 use Rattle.graph.proofs.Members.{took}
 use Rattle.graph.proofs.Settle.{led_none, led_more, led_end}

@@ -1,50 +1,59 @@
-use mathlib.Core.Path.{◌≡◌, ap, refl, ◌∙◌}
+use mathlib.Core.Path.{ap, ◌∙◌}
 use mathlib.Core.List.{List}
 use Prim.Native.Nat.{ℕ}
+use mir.Val.{Fits}
+use mir.Syntax.{w32}
 use native.Mathlib.Omega.{arith}
 use borrow.Author.Rules.{rules}
 use lib.ListN.{length, get_or}
 use Rattle.graph.specs.Words.{members}
-use Rattle.graph.specs.Order.{passed, passed_all, best_all}
-use Rattle.graph.proofs.Order.{Room, passed_all_end, passed_all_more, best_all_end, best_all_more, passed_length, passed_room}
+use Rattle.graph.proofs.Members.{took}
+use Rattle.graph.proofs.Order.{passed_all_end, passed_all_more, best_all_end, best_all_more, passed_room}
 use Rattle.graph.proofs.pass_on.Goals as goal
 
-pub loop-rest-init : goal.loop-rest-init
-loop-rest-init c = (search rules, c.requires.3, refl, refl)
+pub bounds-starts-u : goal.bounds-starts-u
+bounds-starts-u c = (took c.in-Some.ensures.steps c.loop-u.invariant.0).below
+
+pub bounds-times-u : goal.bounds-times-u
+bounds-times-u c = (took c.in-Some.ensures.steps c.loop-u.invariant.0).below
+
+pub bounds-succ-u : goal.bounds-succ-u
+bounds-succ-u c = (took c.in-Some.ensures.steps c.loop-u.invariant.0).below
 
 pub overflow_add-end : goal.overflow_add-end
-overflow_add-end c = omega (arith, c.loop-rest.invariant.1 c.first_of-u.result c.first_of-u.ensures.1)
+overflow_add-end c =
+    let t = took c.in-Some.ensures.steps c.loop-u.invariant.0 in
+    let small : Fits w32 (get_or c.args.times.now c.in-Some.u 0) = search rules in
+    omega (arith, c.from.ensures, small, ap length t.listed, c.loop-u.invariant.2 c.in-Some.u t.below)
 
-pub loop-rest-smaller : goal.loop-rest-smaller
-loop-rest-smaller c = omega (arith, ap length c.others-rest.ensures)
-
-pub loop-rest-preserved : goal.loop-rest-preserved
-loop-rest-preserved c =
+pub loop-u-preserved : goal.loop-u-preserved
+loop-u-preserved c =
     let a = c.args in
-    let l = c.loop-rest in
-    let u = c.first_of-u in
-    let t = c.wide in
+    let l = c.loop-u in
+    let u = c.in-Some.u in
+    let rest = l.u-iterator.rest in
+    let less = c.next.new.self.rest in
     let r = c.raise in
-    let n = ap length c.others-rest.ensures in
-    let m =
-    passed_all_more a.succ.now a.times.now l.starts r.new.starts l.rest c.others-rest.result u.result t.result u.ensures.0
-    c.others-rest.ensures t.ensures.0 r.ensures in
+    let t = took c.in-Some.ensures.steps l.invariant.0 in
+    let small : Fits w32 (get_or a.times.now u 0) = search rules in
+    let m = passed_all_more a.succ.now a.times.now l.starts r.new.starts rest less u c.from.result t.listed c.from.ensures r.ensures in
     let room =
-    passed_room a.succ.now a.times.now l.starts l.invariant.0 u.result (length (members c.others-rest.result)) 68719476736 u.ensures.1
-    (omega (arith, t.ensures)) (λ x h. omega (arith, l.invariant.1 x h)) in (
-      ap length m.0 ∙ passed_length a.succ.now a.times.now l.starts l.invariant.0 u.result,
+    passed_room a.succ.now a.times.now l.starts l.invariant.1 u (length (members less)) 68719476736 t.below
+    (omega (arith, small)) (λ x h. omega (arith, ap length t.listed, l.invariant.2 x h)) in (
+      t.small,
+      r.array_long,
       λ x h. omega (arith, ap (λ (s : List ℕ). get_or s x 0) m.0, room x h),
-      m.1 ∙ l.invariant.2,
-      best_all_more a.succ.now a.times.now l.starts r.new.starts l.most c.larger-most.result l.rest
-          c.others-rest.result u.result t.result u.ensures.0 c.others-rest.ensures t.ensures.0 m.0
-          c.larger-most.ensures
-          ∙ l.invariant.3,
+      m.1 ∙ l.invariant.3,
+      best_all_more a.succ.now a.times.now l.starts r.new.starts l.most c.max-most.result rest less u c.from.result t.listed
+          c.from.ensures m.0 c.max-most.ensures
+          ∙ l.invariant.4,
     )
 
 pub returns : goal.returns
 returns c =
     let a = c.args in
-    let l = c.loop-rest in (
-      passed_all_end a.succ.now a.times.now l.starts l.rest (omega arith) ∙ l.invariant.2,
-      best_all_end a.succ.now a.times.now l.starts l.most l.rest (omega arith) ∙ l.invariant.3,
+    let l = c.loop-u in
+    let z = c.in-None.ensures.steps.0 in (
+      passed_all_end a.succ.now a.times.now l.starts l.u-iterator.rest z ∙ l.invariant.3,
+      best_all_end a.succ.now a.times.now l.starts l.most l.u-iterator.rest z ∙ l.invariant.4,
     )

@@ -1,30 +1,26 @@
-use mathlib.Core.Path.{◌≡◌, ap, refl, ◌∙◌}
+use mathlib.Core.Path.{◌∙◌}
+use lib.ListN.{length-set}
 use native.Mathlib.Omega.{arith}
-use borrow.Author.Rules.{rules}
-use lib.ListN.{length, length-set}
-use Rattle.graph.specs.Words.{members}
-use Rattle.graph.specs.Order.{raised}
+use Rattle.graph.proofs.Members.{took}
 use Rattle.graph.proofs.Order.{raised_end, raised_more}
 use Rattle.graph.proofs.raise.Goals as goal
 
-pub loop-rest-init : goal.loop-rest-init
-loop-rest-init c = (search rules, refl)
+pub bounds-starts-w : goal.bounds-starts-w
+bounds-starts-w c = (took c.in-Some.ensures.steps c.loop-w.invariant.0).below
 
-pub loop-rest-smaller : goal.loop-rest-smaller
-loop-rest-smaller c = omega (arith, ap length c.others-rest.ensures)
+pub bounds-starts-w-in-loop-w : goal.bounds-starts-w-in-loop-w
+bounds-starts-w-in-loop-w c = (took c.in-Some.ensures.steps c.loop-w.invariant.0).below
 
-pub loop-rest-preserved : goal.loop-rest-preserved
-loop-rest-preserved c =
-    let l = c.loop-rest in
-    let w = c.first_of-w in
-    let m = c.larger in (
-      length-set l.starts w.result m.result ∙ l.invariant.0,
-      raised_more c.args.end l.starts l.rest c.others-rest.result w.result m.result w.ensures.0
-          c.others-rest.ensures m.ensures
-          ∙ l.invariant.1,
+pub loop-w-preserved : goal.loop-w-preserved
+loop-w-preserved c =
+    let l = c.loop-w in
+    let t = took c.in-Some.ensures.steps l.invariant.0 in (
+      t.small,
+      length-set l.starts c.in-Some.w c.max.result ∙ l.invariant.1,
+      raised_more c.args.end l.starts l.w-iterator.rest c.next.new.self.rest c.in-Some.w c.max.result t.listed (omega (arith, c.max.ensures)) ∙ l.invariant.2,
     )
 
 pub returns : goal.returns
 returns c =
-    let l = c.loop-rest in
-    raised_end c.args.end l.starts l.rest (omega arith) ∙ l.invariant.1
+    let l = c.loop-w in
+    raised_end c.args.end l.starts l.w-iterator.rest c.in-None.ensures.steps.0 ∙ l.invariant.2

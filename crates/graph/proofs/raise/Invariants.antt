@@ -1,15 +1,13 @@
 -- The loop's invariant: raising what is left gives the whole.
-use mathlib.Core.Path.{◌≡◌, ap, refl, ◌∙◌}
-use native.Mathlib.Omega.{arith}
-use borrow.Author.Rules.{rules}
-use lib.ListN.{length, length-set}
+use mathlib.Core.Path.{◌≡◌}
+use Prim.Native.Nat.{◌^◌, ◌<◌}
+use lib.ListN.{length}
 use Rattle.graph.specs.Words.{members}
 use Rattle.graph.specs.Order.{raised}
-use Rattle.graph.proofs.Order.{raised_end, raised_more}
 use Rattle.graph.proofs.raise.Given as goal
 
-abbrev pub invariant-loop-rest : goal.invariant-loop-rest
-invariant-loop-rest l = (length l.starts ≡ 16) × (raised l.starts l.end (members l.rest) ≡ raised l.initial.starts l.end (members l.set))
-
-abbrev pub decreases-loop-rest : goal.decreases-loop-rest
-decreases-loop-rest l = length (members l.rest)
+abbrev pub invariant-loop-w : goal.invariant-loop-w
+invariant-loop-w l =
+    (l.w-iterator.rest < 2 ^ 16)
+    × (length l.starts ≡ 16)
+    × (raised l.starts l.end (members l.w-iterator.rest) ≡ raised l.initial.starts l.end (members l.set))

@@ -14,21 +14,21 @@ use Rattle.journal.specs.Listing.{all_in, row_slot, Without}
 use Rattle.journal.proofs.SetTests.{all_vertices, over_is}
 use Rattle.journal.proofs.lists.is_passing_over.Goals as goal
 
-pub unlisted-rest-requires : goal.unlisted-rest-requires
-unlisted-rest-requires c = (c.requires.0, all_vertices _ _ _ c.requires.1)
+pub unlisted-requires : goal.unlisted-requires
+unlisted-requires c = all_vertices _ _ _ c.requires
 
-pub most_left-most-requires : goal.most_left-most-requires
-most_left-most-requires c = (c.requires.0, all_vertices _ _ _ c.requires.1)
+pub most_left-requires : goal.most_left-requires
+most_left-requires c = all_vertices _ _ _ c.requires
 
 pub returns : goal.returns
 returns c = λ t st e q.
-    let a = c.args in
-    let u = c.unlisted-rest in
-    let m = c.most_left-most in
-    let b = a.bytes.now in
+    let r = c.args.row.now in
+    let u = c.unlisted in
+    let m = c.most_left in
+    let b = r.bytes.now in
     c.is_sooner.ensures
     ∙ ap (λ (l : List ℕ). not (all 64 (λ k. eqb (get_or u.result k 0) 0 || leb m.result (get_or l k 0)))) q
-    ∙ over_is t st b a.at (subst (λ (l : List ℕ). all_in l b a.at ≡ true) e c.requires.1) u.result
+    ∙ over_is t st b r.at (subst (λ (l : List ℕ). all_in l b r.at ≡ true) e c.requires) u.result
     (λ k h. let f : Fits w16 (get_or u.result k 0) = search rules in omega arith)
-    (subst (λ (l : List ℕ). Without l (listed b a.at) u.result) e u.ensures) m.result
-    (m.ensures ∙ ap (λ (l : List ℕ). largest (row_count b a.at) (λ j. get_or l (row_slot b a.at j) 0)) q)
+    (subst (λ (l : List ℕ). Without l (listed b r.at) u.result) e u.ensures) m.result
+    (m.ensures ∙ ap (λ (l : List ℕ). largest (row_count b r.at) (λ j. get_or l (row_slot b r.at j) 0)) q)

@@ -10,7 +10,7 @@ use Rattle.journal.proofs.lists.is_sooner.Goals as goal
 
 pub loop-k-init : goal.loop-k-init
 unfolding all
-loop-k-init c = (omega arith, refl)
+loop-k-init c = refl
 
 pub returns-then-ticks-k : goal.returns-then-ticks-k
 returns-then-ticks-k c =
@@ -27,9 +27,9 @@ loop-k-preserved c =
     let x = get_or a.rest l.k 0 in
     let y = get_or a.ticks l.k 0 in
     elim c.else-rest-k-ne0.branch [
-      | else-rest-k-ne0-via-then-rest-k-ne0+else-ticks-k w ↦ (omega arith, all_more _ _ l.invariant.1 (later_ticks x a.most y w.if-ticks-k.false))
-      | else-rest-k-ne0-via-else-rest-k-ne0 w ↦ (omega arith, all_more _ _ l.invariant.1 (later_none x a.most y w.if-rest-k-ne0.false))
+      | else-rest-k-ne0-via-then-rest-k-ne0+else-ticks-k w ↦ all_more _ _ l.invariant (later_ticks x a.most y w.if-ticks-k.false)
+      | else-rest-k-ne0-via-else-rest-k-ne0 w ↦ all_more _ _ l.invariant (later_none x a.most y w.if-rest-k-ne0.false)
     ]
 
 pub returns : goal.returns
-returns c = ap not (all_done_lem _ _ c.loop-k.k (omega arith) c.loop-k.invariant.1)
+returns c = ap not (all_done_lem _ _ c.loop-k.k (omega arith) c.loop-k.invariant)

@@ -11,9 +11,9 @@ returns-then-p-eq0 c =
     let e = eq-eqb p.number 0 c.if-p-eq0.true in
     rw e (ap (λ (b : Bool). record { number = 0; place = 0; row = 0; rows = p.rows; missed = b }) c.is_stopped.ensures)
 
-pub returns : goal.returns
+pub returns-else-p-eq0 : goal.returns-else-p-eq0
 unfolding ruling
-returns c =
+returns-else-p-eq0 c =
     let p = c.args.p in
     let e = ne_eqb p.number 0 c.if-p-eq0.false in
     rw e refl

@@ -1,33 +1,28 @@
 use mathlib.Core.Path.{ap}
 use native.Mathlib.Omega.{arith}
 use Rattle.machine.specs.declared.Ticked.{Ticked}
-use Rattle.journal.specs.Rows.{row_set, row_end, listed}
-use Rattle.journal.proofs.Passing.{passes, in_whole, count_low}
+use Rattle.journal.specs.Rows.{row_set, listed}
+use Rattle.journal.proofs.Passing.{passes, count_low}
 use Rattle.journal.proofs.SetTests.{each_vertex}
 use Rattle.journal.proofs.RowFaults.{advanced}
 use Rattle.journal.proofs.walk.state_after.Goals as goal
 
-pub set_at-set-requires : goal.set_at-set-requires
-unfolding row_end
-set_at-set-requires c =
-    let a = c.args in
-    let w = in_whole a.t a.st a.bytes.now a.at (passes _ _ _ _ c.requires.1) in
-    omega arith
+pub chosen-requires-clause-vertices : goal.chosen-requires-clause-vertices
+chosen-requires-clause-vertices c =
+    let r = c.args.row.now in
+    let p = passes c.args.t c.args.st r.bytes.now r.at c.requires.legal in
+    each_vertex c.args.t _ r.bytes.now r.at p.available
 
-pub chosen_at-chosen-requires : goal.chosen_at-chosen-requires
-chosen_at-chosen-requires c =
-    let a = c.args in
-    let p = passes a.t a.st a.bytes.now a.at c.requires.1 in (
-      in_whole a.t a.st a.bytes.now a.at p,
-      each_vertex a.t _ a.bytes.now a.at p.available,
-      let f = count_low a.t a.st a.bytes.now a.at p in let m = c.requires.0.m_high in omega arith,
-    )
+pub chosen-requires-clause-few : goal.chosen-requires-clause-few
+chosen-requires-clause-few c =
+    let r = c.args.row.now in
+    let p = passes c.args.t c.args.st r.bytes.now r.at c.requires.legal in
+    let f = count_low c.args.t c.args.st r.bytes.now r.at p in
+    let m = c.requires.narrow.m_high in
+    omega arith
 
 pub returns : goal.returns
 returns c =
-    let a = c.args in
-    let s = c.set_at-set in
-    let h = c.chosen_at-chosen in
-    let m = c.advance in
+    let r = c.args.row.now in
     ap (λ (x : Ticked). x.state)
-    (advanced a.t a.st s.result (row_set a.bytes.now a.at) _ (listed a.bytes.now a.at) m.result s.ensures h.ensures m.ensures)
+    (advanced c.args.t c.args.st c.set.result (row_set r.bytes.now r.at) _ (listed r.bytes.now r.at) c.advance.result c.set.ensures c.chosen.ensures c.advance.ensures)

@@ -1,13 +1,11 @@
-use native.Mathlib.Omega.{arith}
 use Rattle.text.specs.Text.{text}
-use Rattle.text.proofs.Putting.{put_same, put_none}
+use Rattle.text.proofs.Pages.{same, nothing}
 use Rattle.lines.proofs.Parted.{said, said_not}
-use borrow.Author.Rules.{rules}
 use Rattle.lines.proofs.parts.dash.Goals as goal
 
-pub returns-then-at-from : goal.returns-then-at-from
+pub returns-then-page-from : goal.returns-then-page-from
 unfolding text
-returns-then-at-from c = (put_same c.words.ensures.0 (said _ _ _ _ c.if-at-from.true), search rules)
+returns-then-page-from c = same c.words.ensures (said _ _ _ _ c.if-page-from.true)
 
-pub returns : goal.returns
-returns c = (put_same (put_none _ _) (said_not _ _ _ _ c.if-at-from.false), omega arith)
+pub returns-else-page-from : goal.returns-else-page-from
+returns-else-page-from c = same (nothing _) (said_not _ _ _ _ c.if-page-from.false)

@@ -1,15 +1,13 @@
-use native.Mathlib.Omega.{arith}
 use Rattle.text.specs.Text.{text}
-use Rattle.text.proofs.Putting.{put_same, put_none, put_then}
+use Rattle.text.proofs.Pages.{then, same, nothing}
 use Rattle.lines.proofs.Parted.{vertex_none, vertex_is}
-use borrow.Author.Rules.{rules}
 use Rattle.lines.proofs.parts.vertex.Goals as goal
 
-pub returns-then-p-eq255 : goal.returns-then-p-eq255
-returns-then-p-eq255 c = (put_same (put_none _ _) (vertex_none _ c.if-p-eq255.true), omega arith)
-
-pub returns : goal.returns
+pub returns-then-p-ne255 : goal.returns-then-p-ne255
 unfolding text
-returns c =
-    let p = put_then c.labelled-q.ensures.0 (put_then c.labelled-r.ensures.0 c.labelled.ensures.0) in
-    (put_same p (vertex_is _ c.if-p-eq255.false), search rules)
+returns-then-p-ne255 c =
+    let r = then c.labelled.ensures (then c.labelled-then-p-ne255.ensures c.labelled-then-p-ne255-2.ensures) in
+    same r (simp (c.from.ensures, c.from-then-p-ne255.ensures, c.from-then-p-ne255-2.ensures) (vertex_is _ c.if-p-ne255.true))
+
+pub returns-else-p-ne255 : goal.returns-else-p-ne255
+returns-else-p-ne255 c = same (nothing _) (vertex_none _ c.if-p-ne255.false)

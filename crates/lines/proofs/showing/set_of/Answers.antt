@@ -1,7 +1,7 @@
-use Rattle.std.proofs.Common.{arith}
+use native.Mathlib.Omega.{arith}
 use Rattle.lines.specs.Watching.{number2}
 use Rattle.lines.proofs.showing.set_of.Goals as goal
 
 pub returns : goal.returns
 unfolding number2
-returns c = omega arith
+returns c = omega (arith, c.from_le_bytes.ensures)

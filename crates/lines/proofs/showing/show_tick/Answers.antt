@@ -3,5 +3,5 @@ use Rattle.lines.proofs.showing.show_tick.Goals as goal
 
 pub returns : goal.returns
 returns c =
-    let t = c.tick-t in
-    tick_shown _ _ _ _ t.result _ c.tick_line-line.ensures c.live_slots-live.ensures t.ensures
+    let t = c.tick-ticked in
+    tick_shown _ _ _ _ t.result _ c.tick_line.ensures c.live_slots-live.ensures t.ensures

@@ -1,15 +1,13 @@
 use Rattle.text.specs.Text.{text}
-use Rattle.text.proofs.Putting.{put_same, put_then}
+use Rattle.text.proofs.Pages.{same, then}
 use Rattle.lines.proofs.Parted.{refusal_none, refusal_is}
-use borrow.Author.Rules.{rules}
 use Rattle.lines.proofs.ticking.refusal.Goals as goal
 
-pub returns-then-reply-eq255 : goal.returns-then-reply-eq255
+pub returns-then-reply-ne255 : goal.returns-then-reply-ne255
 unfolding text
-returns-then-reply-eq255 c =
-    (put_same c.labelled-p.ensures.0 (refusal_none _ c.if-reply-eq255.true), search rules)
+returns-then-reply-ne255 c =
+    same (then c.labelled.ensures c.labelled-then-reply-ne255.ensures) (simp (c.from.ensures, c.from-then-reply-ne255.ensures) (refusal_is _ c.if-reply-ne255.true))
 
-pub returns : goal.returns
+pub returns-else-reply-ne255 : goal.returns-else-reply-ne255
 unfolding text
-returns c =
-    (put_same (put_then c.labelled-p.ensures.0 c.labelled.ensures.0) (refusal_is _ c.if-reply-eq255.false), search rules)
+returns-else-reply-ne255 c = same c.labelled.ensures (simp c.from.ensures (refusal_none _ c.if-reply-ne255.false))

@@ -1,10 +1,6 @@
 -- The loop's invariant: `count` of the ranking were picked, the sets hold the others, and `among` the slots whose set has a member.
-use Rattle.std.proofs.Common.{◌-◌, ◌≤◌}
 use Rattle.machine.proofs.Picking.{Chooses}
 use Rattle.machine.proofs.choosing.choose.Given as goal
 
 abbrev pub invariant-loop-count : goal.invariant-loop-count
-invariant-loop-count l = (l.count ≤ l.most) × Chooses l.ticks l.initial.sets l.sets l.keys l.among l.count
-
-abbrev pub decreases-loop-count : goal.decreases-loop-count
-decreases-loop-count l = l.most - l.count
+invariant-loop-count l = Chooses l.ticks l.initial.sets l.sets l.keys l.among l.count

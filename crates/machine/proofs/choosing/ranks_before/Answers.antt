@@ -1,15 +1,14 @@
--- Fewer ticks left, or more, or as many: then the order of the slots decides.
-use Rattle.std.proofs.Common.{ℕ, ltb, sym, ◌∙◌, ap₂, arith}
-use Rattle.machine.proofs.Leading.{by_fewer, by_more, by_order}
+use Rattle.std.proofs.Common.{ℕ, ◌&&◌, ◌||◌, eqb, ltb, get_or, ◌∙◌, ap₂}
+use Rattle.machine.specs.Rows.{before_by}
+use Rattle.machine.proofs.Leading.{pair_before}
 use Rattle.machine.proofs.choosing.ranks_before.Goals as goal
 
-pub returns-then-ticks-a : goal.returns-then-ticks-a
-returns-then-ticks-a c = let a = c.args in sym (by_fewer a.ticks.now a.a a.b c.if-ticks-a.true)
-
-pub returns-then-ticks-b : goal.returns-then-ticks-b
-returns-then-ticks-b c = let a = c.args in sym (by_more a.ticks.now a.a a.b c.if-ticks-b.true)
-
 pub returns : goal.returns
+unfolding before_by
 returns c =
     let a = c.args in
-    ap₂ (λ (x y : ℕ). ltb x y) c.order_of.ensures c.order_of-2.ensures ∙ sym (by_order a.ticks.now a.a a.b (omega arith))
+    let x = get_or a.ticks.now a.a 0 in
+    let y = get_or a.ticks.now a.b 0 in
+    c.lt.ensures
+    ∙ pair_before (ltb x y) (eqb x y) (ltb c.order_of.result c.order_of-2.result) (eqb c.order_of.result c.order_of-2.result)
+    ∙ ap₂ (λ (i j : ℕ). ltb x y || (eqb x y && ltb i j)) c.order_of.ensures c.order_of-2.ensures

@@ -1,22 +1,22 @@
-use Rattle.std.proofs.Common.{refl, arith, rules}
+use Rattle.std.proofs.Common.{refl, rules}
 use Rattle.table.specs.Memory.{no_task, task}
-use Rattle.machine.proofs.Sweeping.{falls, swept_none, swept_at, swept_zeros}
+use Rattle.machine.proofs.Sweeping.{swept_none, swept_zeros}
+use Rattle.machine.proofs.Stepping.{swept_next}
 use Rattle.machine.proofs.choosing.sets_of.Invariants.{ready_in}
 use Rattle.machine.proofs.choosing.sets_of.Goals as goal
 
-pub loop-rest-init : goal.loop-rest-init
-loop-rest-init c = swept_none 0 (ready_in c.args.t.tasks c.args.remaining.now) _ c.args.live (search rules) refl
-
-pub loop-rest-smaller : goal.loop-rest-smaller
-loop-rest-smaller c = falls _ (omega arith) c.loop-rest.invariant.narrow
-
-pub loop-rest-preserved : goal.loop-rest-preserved
-unfolding no_task
-loop-rest-preserved c =
-    let l = c.loop-rest in
+pub loop-s-init : goal.loop-s-init
+loop-s-init c =
     let a = c.args in
-    swept_at 0 (ready_in a.t.tasks a.remaining.now) _ _ l.rest l.sets l.invariant (omega arith) c.first_of-s.result c.first_of-s.ensures.0 c.ready.result c.ready.ensures
+    rw (c.into_iter-s-iterator.ensures.into_iter_gives, c.of-s-items.ensures) (swept_none 0 (ready_in a.t.tasks a.remaining.now) _ a.live (search rules) refl)
+
+pub loop-s-preserved : goal.loop-s-preserved
+unfolding no_task
+loop-s-preserved c =
+    let l = c.loop-s in
+    let a = c.args in
+    swept_next c.in-Some.ensures.steps 0 (ready_in a.t.tasks a.remaining.now) _ _ l.sets l.invariant _ (rw c.from.ensures at c.ready.ensures)
 
 pub returns : goal.returns
 unfolding task
-returns c = let a = c.args in swept_zeros (ready_in a.t.tasks a.remaining.now) _ c.loop-rest.rest c.loop-rest.sets c.loop-rest.invariant (omega arith)
+returns c = let a = c.args in let l = c.loop-s in swept_zeros (ready_in a.t.tasks a.remaining.now) _ l.s-iterator.rest l.sets l.invariant c.in-None.ensures.steps.0

@@ -11,8 +11,5 @@ use Rattle.machine.proofs.choosing.sets_of.Given as goal
 abbrev pub ready_in : List Task → List ℕ → ℕ → ℕ
 ready_in tasks rest s = set_of 16 (is_ready (get_or tasks (s % 16) no_task).succ (get_or tasks (s % 16) no_task).v rest s)
 
-abbrev pub invariant-loop-rest : goal.invariant-loop-rest
-invariant-loop-rest l = Swept 0 (ready_in l.tasks l.remaining) l.initial.sets l.live l.rest l.sets
-
-abbrev pub decreases-loop-rest : goal.decreases-loop-rest
-decreases-loop-rest l = l.rest
+abbrev pub invariant-loop-s : goal.invariant-loop-s
+invariant-loop-s l = Swept 0 (ready_in l.t.tasks l.remaining) l.initial.sets l.live l.s-iterator.rest l.sets

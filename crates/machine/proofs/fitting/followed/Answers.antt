@@ -1,11 +1,11 @@
 use Rattle.machine.proofs.Judging.{followed_past, followed_in}
-use Rattle.std.proofs.Common.{arith}
+use Rattle.std.proofs.Common.{arith, le-ltb, ◌∙◌}
 use Rattle.graph.specs.Words.{bit}
 use Rattle.machine.proofs.fitting.followed.Goals as goal
 
-pub returns-then-s-ge48 : goal.returns-then-s-ge48
-returns-then-s-ge48 c = followed_past c.args.live c.args.s (omega arith)
-
-pub returns : goal.returns
+pub returns-then-s-lt48 : goal.returns-then-s-lt48
 unfolding bit
-returns c = followed_in c.args.live c.args.s (omega arith)
+returns-then-s-lt48 c = followed_in c.args.live c.args.s (omega arith)
+
+pub returns-else-s-lt48 : goal.returns-else-s-lt48
+returns-else-s-lt48 c = le-ltb c.args.s 48 (omega arith) ∙ followed_past c.args.live c.args.s (omega arith)

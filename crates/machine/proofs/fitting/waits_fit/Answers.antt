@@ -1,20 +1,14 @@
-use Rattle.std.proofs.Common.{sym, refl, ◌∙◌, arith}
-use Rattle.graph.specs.Words.{all}
-use Rattle.slots.proofs.Behind.{all_more, all_off, all_done_lem}
+use Rattle.std.proofs.Common.{ℕ, Bool, get_or, refl, ◌∙◌, rules, tests}
+use Rattle.std.proofs.lemmas.Iterator.{YieldsList-from_range}
+use Rattle.std.proofs.lemmas.Iterator.Search.{all_from_yields_List}
 use Rattle.table.specs.Memory.{no_task}
+use Rattle.machine.specs.Rows.{wait_fits}
+use Rattle.machine.proofs.Chains.{all_in_range}
 use Rattle.machine.proofs.fitting.waits_fit.Goals as goal
 
-pub loop-i-init : goal.loop-i-init
-unfolding all
-loop-i-init c = (omega arith, refl)
-
-pub returns-then-not-wait_fits : goal.returns-then-not-wait_fits
-unfolding no_task
-returns-then-not-wait_fits c = let l = c.loop-i in all_off 16 _ l.i (omega arith) (sym c.wait_fits.ensures ∙ c.if-not-wait_fits.true)
-
-pub loop-i-preserved : goal.loop-i-preserved
-unfolding no_task
-loop-i-preserved c = let l = c.loop-i in (omega arith, all_more _ _ l.invariant.1 (sym c.wait_fits.ensures ∙ c.if-not-wait_fits.false))
-
 pub returns : goal.returns
-returns c = all_done_lem 16 _ c.loop-i.i (omega arith) c.loop-i.invariant.1
+unfolding no_task
+returns c =
+    let a = c.args in
+    let fits : ℕ → Bool = λ i. wait_fits a.t.now.n (get_or a.t.now.tasks i no_task).t (get_or a.waits.now i 0) i in
+    all_from_yields_List fits _ _ c.all.result c.all.ensures.ran (YieldsList-from_range 0 16 16 refl refl) (λ x b q k. search (rules, tests)) ∙ all_in_range fits 16

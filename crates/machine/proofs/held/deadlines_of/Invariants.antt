@@ -9,8 +9,5 @@ use Rattle.machine.proofs.held.deadlines_of.Given as goal
 abbrev pub deadline_in : List TaskState → ℕ → ℕ
 deadline_in states s = deadline_of (job_in states s)
 
-abbrev pub invariant-loop-rest : goal.invariant-loop-rest
-invariant-loop-rest l = Swept 0 (deadline_in l.states) l.initial.deadlines l.set l.rest l.deadlines
-
-abbrev pub decreases-loop-rest : goal.decreases-loop-rest
-decreases-loop-rest l = l.rest
+abbrev pub invariant-loop-s : goal.invariant-loop-s
+invariant-loop-s l = Swept 0 (deadline_in l.states) l.initial.deadlines l.set l.s-iterator.rest l.deadlines

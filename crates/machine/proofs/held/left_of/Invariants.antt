@@ -7,8 +7,5 @@ use Rattle.machine.proofs.held.left_of.Given as goal
 abbrev pub left_in : List ℕ → ℕ → ℕ → ℕ
 left_in deadlines clock s = ticks_left (get_or deadlines s 0) clock
 
-abbrev pub invariant-loop-rest : goal.invariant-loop-rest
-invariant-loop-rest l = Swept 0 (left_in l.deadlines l.clock) l.initial.left l.set l.rest l.left
-
-abbrev pub decreases-loop-rest : goal.decreases-loop-rest
-decreases-loop-rest l = l.rest
+abbrev pub invariant-loop-s : goal.invariant-loop-s
+invariant-loop-s l = Swept 0 (left_in l.deadlines l.clock) l.initial.left l.set l.s-iterator.rest l.left

@@ -1,4 +1,4 @@
-use Rattle.std.proofs.Common.{◌≡◌, ℕ, ◌-◌, ◌≤◌, Bool, List}
+use Rattle.std.proofs.Common.{◌≡◌, ℕ, Bool, List}
 use Rattle.graph.specs.Words.{set_of}
 use Rattle.machine.specs.declared.TaskState.{TaskState}
 use Rattle.machine.specs.States.{is_live}
@@ -10,7 +10,4 @@ abbrev pub live_in : List TaskState → ℕ → Bool
 live_in states s = is_live (job_in states s)
 
 abbrev pub invariant-loop-s : goal.invariant-loop-s
-invariant-loop-s l = (l.s ≤ 64) × (l.set ≡ set_of l.s (live_in l.states))
-
-abbrev pub decreases-loop-s : goal.decreases-loop-s
-decreases-loop-s l = 64 - l.s
+invariant-loop-s l = l.set ≡ set_of l.s (live_in l.states)

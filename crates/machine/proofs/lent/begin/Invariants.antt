@@ -8,8 +8,5 @@ use Rattle.machine.proofs.lent.begin.Given as goal
 abbrev pub deadline_in : ℕ → List Task → ℕ → ℕ
 deadline_in clock tasks s = wrap (clock + (get_or tasks (s % 16) no_task).d)
 
-abbrev pub invariant-loop-rest : goal.invariant-loop-rest
-invariant-loop-rest l = Swept 0 (deadline_in l.clock l.tasks) l.initial.deadlines l.fresh l.rest l.deadlines
-
-abbrev pub decreases-loop-rest : goal.decreases-loop-rest
-decreases-loop-rest l = l.rest
+abbrev pub invariant-loop-s : goal.invariant-loop-s
+invariant-loop-s l = Swept 0 (deadline_in l.clock l.t.tasks) l.initial.deadlines l.fresh l.s-iterator.rest l.deadlines

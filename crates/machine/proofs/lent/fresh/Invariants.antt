@@ -1,10 +1,7 @@
-use Rattle.std.proofs.Common.{◌≡◌, ◌-◌, ◌≤◌}
+use Rattle.std.proofs.Common.{◌≡◌}
 use Rattle.graph.specs.Words.{set_of}
 use Rattle.machine.specs.Rows.{is_new_by}
 use Rattle.machine.proofs.lent.fresh.Given as goal
 
 abbrev pub invariant-loop-s : goal.invariant-loop-s
-invariant-loop-s l = (l.s ≤ 64) × (l.set ≡ set_of l.s (is_new_by l.live l.named))
-
-abbrev pub decreases-loop-s : goal.decreases-loop-s
-decreases-loop-s l = 64 - l.s
+invariant-loop-s l = l.set ≡ set_of l.s (is_new_by l.live l.named)

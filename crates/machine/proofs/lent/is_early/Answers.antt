@@ -1,4 +1,3 @@
--- A task is early if it is named and has a wait: the two tests, one after the other.
 use Rattle.std.proofs.Common.{refl, eq-eqb, ne_eqb}
 use Rattle.graph.specs.Words.{bit}
 use Rattle.machine.proofs.lent.is_early.Goals as goal
@@ -7,6 +6,6 @@ pub returns-then-named-i-eq1 : goal.returns-then-named-i-eq1
 unfolding bit
 returns-then-named-i-eq1 c = rw (eq-eqb _ _ c.if-named-i-eq1.true) refl
 
-pub returns : goal.returns
+pub returns-else-named-i-eq1 : goal.returns-else-named-i-eq1
 unfolding bit
-returns c = rw (ne_eqb _ _ c.if-named-i-eq1.false) refl
+returns-else-named-i-eq1 c = rw (ne_eqb _ _ c.if-named-i-eq1.false) refl

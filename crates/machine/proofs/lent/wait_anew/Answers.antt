@@ -7,7 +7,7 @@ use Rattle.machine.proofs.lent.wait_anew.Goals as goal
 use Rattle.machine.proofs.lent.wait_anew.Goals.{then-named-i-eq1, else-named-i-eq1}
 
 pub loop-i-init : goal.loop-i-init
-loop-i-init c = (search rules, filled_none 16 0 _ _ c.requires)
+loop-i-init c = (search rules, filled_none 16 0 _ _ (search rules))
 
 pub loop-i-preserved : goal.loop-i-preserved
 unfolding bit no_task

@@ -1,4 +1,4 @@
-use Rattle.std.proofs.Common.{ℕ, ◌-◌, ◌≤◌, List, get_or}
+use Rattle.std.proofs.Common.{ℕ, ◌≤◌, List, get_or}
 use Rattle.graph.specs.Words.{pick, bit}
 use Rattle.table.specs.declared.Task.{Task}
 use Rattle.table.specs.Memory.{no_task}
@@ -9,7 +9,4 @@ abbrev pub wait_in : ℕ → List Task → List ℕ → ℕ → ℕ
 wait_in named tasks before k = pick (bit named k) (get_or tasks k no_task).t (get_or before k 0)
 
 abbrev pub invariant-loop-i : goal.invariant-loop-i
-invariant-loop-i l = (l.i ≤ 16) × Filled 16 0 (wait_in l.named l.tasks l.initial.waits) l.initial.waits l.i l.waits
-
-abbrev pub decreases-loop-i : goal.decreases-loop-i
-decreases-loop-i l = 16 - l.i
+invariant-loop-i l = (l.i ≤ 16) × Filled 16 0 (wait_in l.named l.t.tasks l.initial.waits) l.initial.waits l.i l.waits

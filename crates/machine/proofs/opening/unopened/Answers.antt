@@ -3,4 +3,4 @@ use Rattle.machine.proofs.opening.unopened.Goals as goal
 
 pub returns : goal.returns
 unfolding unopened
-returns c = rw (c.zeros-state.ensures, c.number.ensures, c.place.ensures)
+returns c = rw (c.zeros.ensures, c.number.ensures, c.place.ensures)

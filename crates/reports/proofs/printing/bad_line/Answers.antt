@@ -1,14 +1,11 @@
-use mathlib.Core.Path.{ap}
-use mathlib.Core.List.{◌++◌, append_assoc}
-use Prim.Native.Nat.{ℕ}
-use Rattle.text.specs.Text.{text, decimal}
+use mathlib.Core.List.{append_assoc}
+use Rattle.text.specs.Text.{text}
 use Rattle.reports.specs.Report.{bad_line}
-use Rattle.text.proofs.Putting.{put_then, put_same}
+use Rattle.text.proofs.Pages.{then, same}
 use Rattle.reports.proofs.printing.bad_line.Goals as goal
 
 pub returns : goal.returns
 unfolding bad_line text
-returns c =
-    let r = put_then (put_same c.labelled-p.ensures.0 (ap (λ (n : ℕ). text "unreadable " ++ decimal n) c.number-number.ensures))
-    (put_then (put_same c.labelled-q.ensures.0 (ap (λ (n : ℕ). text " at " ++ decimal n) c.place-place.ensures)) c.ended.ensures) in
-    put_same r (simp append_assoc)
+returns g c =
+    let r = then c.labelled.ensures (then c.labelled-2.ensures c.end_line.ensures) in
+    same r (simp (append_assoc, c.from.ensures, c.number.ensures, c.place.ensures))

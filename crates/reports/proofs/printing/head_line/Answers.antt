@@ -1,11 +1,11 @@
 use mathlib.Core.List.{append_assoc}
 use Rattle.text.specs.Text.{text}
 use Rattle.reports.specs.Report.{head_line}
-use Rattle.text.proofs.Putting.{put_then, put_same}
+use Rattle.text.proofs.Pages.{then, same}
 use Rattle.reports.proofs.printing.head_line.Goals as goal
 
 pub returns : goal.returns
 unfolding head_line text
-returns c =
-    let r = put_then c.labelled-p.ensures.0 (put_then c.labelled-q.ensures.0 c.ended.ensures) in
-    put_same r (simp append_assoc)
+returns g c =
+    let r = then c.labelled.ensures (then c.labelled-2.ensures c.end_line.ensures) in
+    same r (simp (append_assoc, c.from.ensures, c.from-2.ensures))

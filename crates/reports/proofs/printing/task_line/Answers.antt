@@ -5,17 +5,17 @@ use mir.Syntax.{w64}
 use mir.Val.{SFits}
 use mir.Facts.{to_z-of_z}
 use Rattle.text.specs.Text.{text, signed}
-use Rattle.text.proofs.Putting.{put_then, put_same}
+use Rattle.text.proofs.Pages.{then, same}
 use Rattle.reports.proofs.Lines.{line_is}
 use borrow.Author.Rules.{rules}
 use Rattle.reports.proofs.printing.task_line.Goals as goal
 
 pub returns : goal.returns
 unfolding text
-returns c =
+returns g c =
     let a = c.args in
     let s : SFits w64 a.f.margin = search rules in
     let z = ap (λ (y : ℤ). text " margin " ++ signed y) (to_z-of_z s) in
-    let m = put_then (put_same c.with_margin-e.ensures.0 z) c.ended.ensures in
-    let r = put_then c.labelled-a.ensures.0 (put_then c.labelled-b.ensures.0 (put_then c.labelled-c.ensures.0 (put_then c.labelled-d.ensures.0 m))) in
-    put_same r (line_is a.k a.f)
+    let m = then (same c.margin.ensures z) c.end_line.ensures in
+    let r = then c.labelled.ensures (then c.labelled-2.ensures (then c.labelled-3.ensures (then c.labelled-4.ensures m))) in
+    same r (line_is a.k a.f)

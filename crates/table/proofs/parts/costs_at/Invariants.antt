@@ -7,7 +7,4 @@ use Rattle.table.proofs.parts.costs_at.Given as goal
 
 abbrev pub invariant-loop-u : goal.invariant-loop-u
 invariant-loop-u l =
-    (l.u ≤ l.v) × (l.p ≤ length l.bytes) × (length l.costs ≡ 256) × (costs_at l.bytes (l.v - l.u) l.p (l.slot + l.u) l.costs ≡ costs_at l.bytes l.v l.at l.slot l.initial.costs)
-
-abbrev pub decreases-loop-u : goal.decreases-loop-u
-decreases-loop-u l = l.v - l.u
+    (l.u-end ≡ l.v) × (l.p ≤ length l.bytes) × (length l.costs ≡ 256) × (costs_at l.bytes (l.v - l.u) l.p (l.slot + l.u) l.costs ≡ costs_at l.bytes l.v l.at l.slot l.initial.costs)

@@ -5,9 +5,6 @@ use mathlib.Core.Path.{◌≡◌}
 use Prim.Native.Nat.{◌≤◌, ◌-◌}
 use Rattle.table.proofs.parts.edges_at.Given as goal
 
-abbrev pub invariant-loop-i : goal.invariant-loop-i
-invariant-loop-i l =
-    (l.i ≤ l.e) × (l.p ≤ length l.bytes) × (length l.succ ≡ 16) × (edges_at l.v l.bytes (l.e - l.i) l.p l.low l.succ ≡ edges_at l.v l.bytes l.e l.at 0 l.initial.succ)
-
-abbrev pub decreases-loop-i : goal.decreases-loop-i
-decreases-loop-i l = l.e - l.i
+abbrev pub invariant-loop : goal.invariant-loop
+invariant-loop l =
+    (l.p ≤ length l.bytes) × (length l.succ ≡ 16) × (edges_at l.v l.bytes (l.e - l.counter) l.p l.low l.succ ≡ edges_at l.v l.bytes l.e l.at 0 l.initial.succ)

@@ -3,4 +3,4 @@ use Rattle.table.proofs.reading.bad_table.Goals as goal
 
 pub returns : goal.returns
 unfolding bad_table
-returns c = rw c.no_table-table.ensures
+returns c = rw c.no_table.ensures

@@ -1,31 +1,23 @@
-use Rattle.table.proofs.FieldLaws.{mark_read, byte_read}
-use Rattle.table.proofs.TaskLaws.{head-laws}
+use mathlib.Core.Path.{◌∙◌}
 use native.Mathlib.Omega.{arith}
+use Rattle.table.proofs.FieldLaws.{handed, mark_read, byte_read}
+use Rattle.table.proofs.TaskLaws.{head_mark, head_m, head_n, head_got}
 use Rattle.table.proofs.reading.head_at.Goals as goal
 
-pub returns-in-Stop : goal.returns-in-Stop
-returns-in-Stop c = search head-laws
+pub returns-in_err-mark_at : goal.returns-in_err-mark_at
+returns-in_err-mark_at c = handed _ _ c.from_residual.ensures.1 ∙ head_mark _ _ _ c.in_err-mark_at.ensures
 
 pub overflow_add-at : goal.overflow_add-at
-overflow_add-at c = omega (arith, mark_read _ _ _ _ _ c.mark_at.ensures c.in-Got.is)
+overflow_add-at c = omega (arith, mark_read _ _ _ _ c.in_ok-mark_at.ensures)
 
-pub returns-in-Stop-byte_at : goal.returns-in-Stop-byte_at
-returns-in-Stop-byte_at c = search head-laws
+pub returns-in_err-m : goal.returns-in_err-m
+returns-in_err-m c = handed _ _ c.from_residual-in_err-m.ensures.1 ∙ head_m _ _ _ c.in_ok-mark_at.ensures _ c.in_err-m.ensures
 
 pub overflow_add-at-2 : goal.overflow_add-at-2
-overflow_add-at-2 c = omega (arith, (byte_read _ _ _ _ _ _ c.byte_at.ensures c.in-Got-byte_at.is).0)
+overflow_add-at-2 c = omega (arith, (byte_read _ _ _ _ _ c.in_ok-m.ensures).0)
 
-pub overflow_mul-result : goal.overflow_mul-result
-overflow_mul-result c = omega (arith, (byte_read _ _ _ _ _ _ c.byte_at.ensures c.in-Got-byte_at.is).2)
+pub returns-in_err-n : goal.returns-in_err-n
+returns-in_err-n c = handed _ _ c.from_residual-in_err-n.ensures.1 ∙ head_n _ _ _ c.in_ok-mark_at.ensures _ c.in_ok-m.ensures _ c.in_err-n.ensures
 
-pub overflow_add-result : goal.overflow_add-result
-overflow_add-result c =
-    let m = byte_read _ _ _ _ _ _ c.byte_at.ensures c.in-Got-byte_at.is in
-    let n = byte_read _ _ _ _ _ _ c.byte_at-2.ensures c.in-Got-byte_at-2.is in
-    omega arith
-
-pub returns-in-Stop-byte_at-2 : goal.returns-in-Stop-byte_at-2
-returns-in-Stop-byte_at-2 c = search head-laws
-
-pub returns-in-Got-byte_at-2 : goal.returns-in-Got-byte_at-2
-returns-in-Got-byte_at-2 c = search head-laws
+pub returns : goal.returns
+returns c = head_got _ _ _ c.in_ok-mark_at.ensures _ c.in_ok-m.ensures _ c.in_ok-n.ensures

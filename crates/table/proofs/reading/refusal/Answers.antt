@@ -3,4 +3,4 @@ use Rattle.table.proofs.reading.refusal.Goals as goal
 
 pub returns : goal.returns
 unfolding refused
-returns c = rw c.no_table-table.ensures
+returns c = rw c.no_table.ensures

@@ -1,0 +1,17 @@
+-- A page of n bytes: text put on it, part behind part.
+use Rattle.std.specs.Prelude.{◌≡◌, List, ℕ, ◌+◌, ◌-◌, ◌++◌, min, length, replicate}
+use Rattle.text.specs.Laid.{laid}
+use Rattle.text.specs.declared.page.Page.{Page}
+
+-- with nothing on it
+unfoldable pub blank : (n : ℕ) → Page n
+blank n = record { bytes = replicate n 0; len = 0 }
+
+-- what putting some words on it does: they stand behind what was on it, and what does not fit is cut off
+pub record Adds {n : ℕ} (old new : Page n) (words : List ℕ) : Type 0 where
+  pub bytes : new.bytes ≡ laid old.bytes old.len words
+  pub len : new.len ≡ old.len + min (length words) (length old.bytes - old.len)
+
+-- with a text at its front, zeros behind it, and its length: what is on a page that began blank, if the text fits
+unfoldable pub written : (n : ℕ) → List ℕ → Page n
+written n words = record { bytes = words ++ replicate (n - length words) 0; len = length words }
