@@ -2,8 +2,6 @@
 // table, and 8,192 bytes of the journal at a time.
 #![tactic(auto)]
 
-ghost use Rattle.std.specs.Prelude.{◌≤◌};
-
 use journal::{Progress, Ruling};
 use machine::Phase;
 use std::io;
@@ -67,6 +65,5 @@ fn main(rt: HostRuntime) -> io::Result<()> {
     let mut table = [0; FILE_ROOM];
     let n = streams::read_sized(&mut input, &mut table)?.unwrap_or(0);
     let ruling = ruling_on(&mut input, &table[..n])?;
-    let line = lines::ruling_line(ruling);
-    rt.write_all(&line.bytes[..line.len.min(2048)])
+    rt.write_all(lines::ruling_line(ruling).text())
 }

@@ -8,6 +8,5 @@ use streams::FILE_ROOM;
 fn main(rt: HostRuntime) -> io::Result<()> {
     let mut file = [0; FILE_ROOM];
     let n = streams::read_full(&mut rt.stdin(), &mut file)?;
-    let report = reports::report_of(&file[..n]);
-    rt.write_all(&report.bytes[..report.len])
+    rt.write_all(reports::report_of(&file[..n]).text())
 }

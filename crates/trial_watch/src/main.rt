@@ -21,7 +21,7 @@ fn add_ticks(sum: &mut Checksum, table: &[u8], opened: State, releases: &[[u8; 2
     let mut state = opened;
     for set in releases {
         let shown = lines::show_tick(table, state, u16::from_le_bytes(*set));
-        sum.write(&shown.line.bytes[..shown.line.len.min(2048)]);
+        sum.write(shown.line.text());
         state = shown.state;
     }
 }
@@ -35,7 +35,7 @@ fn answer(rt: &impl Print, input: &[u8]) -> io::Result<()> {
     let (releases, _) = rest.as_chunks::<2>();
     let opening = lines::show_opening(table, u32::from_le_bytes(clock));
     let mut sum = Checksum::new();
-    sum.write(&opening.line.bytes[..opening.line.len.min(2048)]);
+    sum.write(opening.line.text());
     let mut count = 1;
     if opening.number == 0 {
         add_ticks(&mut sum, table, opening.state, releases);

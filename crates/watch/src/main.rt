@@ -7,29 +7,16 @@ use std::io;
 use std::io::Read;
 use streams::FILE_ROOM;
 
-// One tick, if the input has a release set for it; the state to go on from.
-fn step(
-    rt: &impl Print,
-    input: &mut impl Read,
-    table: &[u8],
-    state: State,
-) -> io::Result<Option<State>> {
-    let Some(releases) = streams::next_u16(input)? else {
-        return Ok(None);
-    };
-    let shown = lines::show_tick(table, state, releases);
-    rt.write_all(&shown.line.bytes[..shown.line.len.min(2048)])?;
-    Ok(Some(shown.state))
-}
-
-// Tick after tick; their number is bounded because a loop must be shown to end.
+// Tick after tick, as long as the input has release sets; their number is bounded because a loop must be shown to end.
 fn run(rt: &impl Print, input: &mut impl Read, table: &[u8], opened: State) -> io::Result<()> {
     let mut state = opened;
     for _ in 0..u64::MAX {
-        let Some(next) = step(rt, input, table, state)? else {
+        let Some(releases) = streams::next_u16(input)? else {
             break;
         };
-        state = next;
+        let shown = lines::show_tick(table, state, releases);
+        rt.write_all(shown.line.text())?;
+        state = shown.state;
     }
     Ok(())
 }
@@ -37,7 +24,7 @@ fn run(rt: &impl Print, input: &mut impl Read, table: &[u8], opened: State) -> i
 // Opening, and the ticks if it was not refused.
 fn watch(rt: &impl Print, input: &mut impl Read, table: &[u8], clock: u32) -> io::Result<()> {
     let shown = lines::show_opening(table, clock);
-    rt.write_all(&shown.line.bytes[..shown.line.len.min(2048)])?;
+    rt.write_all(shown.line.text())?;
     if shown.number == 0 {
         run(rt, input, table, shown.state)
     } else {

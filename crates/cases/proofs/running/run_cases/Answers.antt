@@ -1,5 +1,5 @@
 -- `run_cases` meets its contract: one call more said that there is more.
-use Rattle.std.proofs.Common.{◌≡◌, ◌+◌, ℕ, replicate, rules, of_calls, refl, subst}
+use Rattle.std.proofs.Common.{◌+◌, ℕ, replicate, rules, of_calls, subst}
 use Rattle.std.specs.Fn.{Called}
 use Rattle.std.specs.List.{FoldsTo}
 use Rattle.std.proofs.lemmas.Fn.{FoldsTo-push, called}
