@@ -12,12 +12,6 @@ use table::{Outcome, Table};
 // Room for a piece of the journal.
 const PAGE: usize = 8192;
 
-// Where the last row of a piece may begin: 769 bytes or more stand behind it, unless the journal ends there. So the piece alone
-// decides, whatever follows (`InPieces`, the crate journal).
-fn end_of(n: usize, last: bool) -> usize {
-    if last { n } else { n.saturating_sub(769) }
-}
-
 // The ruling on the journal that follows in the input, piece after piece; what a piece leaves unjudged stands at the front of the
 // next one. The count of pieces is bounded because a loop must be shown to end; a journal has fewer than 2^64 rows.
 fn judge_input(input: &mut impl Read, t: Table) -> io::Result<Ruling> {
@@ -32,7 +26,10 @@ fn judge_input(input: &mut impl Read, t: Table) -> io::Result<Ruling> {
     for _ in 0..u64::MAX {
         let n = held + streams::read_full(input, &mut page[held..])?;
         let last = n < PAGE;
-        let piece = journal::judge_piece(t, &page[..n], end_of(n, last), progress.state);
+        // 769 bytes or more stand behind where a piece's last row may begin, unless the journal ends there. So the piece alone
+        // decides, whatever follows (`InPieces`, the crate journal).
+        let end = if last { n } else { n - 769 };
+        let piece = journal::judge_piece(t, &page[..n], end, progress.state);
         progress = Progress {
             rows: progress.rows.wrapping_add(piece.rows),
             ..piece

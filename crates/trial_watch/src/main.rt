@@ -10,10 +10,10 @@ use std::io::Read;
 use std::{array, io};
 use streams::SIZED_ROOM;
 
-// A run's number, and what comes behind it.
+// The first N bytes of an input, which are 0 where it has ended, and what comes behind them.
 fn first<const N: usize>(input: &[u8]) -> ([u8; N], &[u8]) {
-    let number = array::from_fn(|i| input.get(i).copied().unwrap_or(0));
-    (number, &input[N.min(input.len())..])
+    let bytes = array::from_fn(|i| input.get(i).copied().unwrap_or(0));
+    (bytes, &input[N.min(input.len())..])
 }
 
 // The ticks of a run, a release set each, whose lines go into a checksum.
