@@ -5,17 +5,16 @@ use mathlib.Core.Path.{◌≡◌, refl, sym, ap, subst, ◌∙◌}
 use mathlib.Core.Logic.{◌⊎◌, inl, inr, ⊎_elim}
 use mathlib.Core.Bool.{Bool, true, false}
 use mathlib.Core.List.{List, ◌∷◌}
-use Prim.Native.Nat.{ℕ, ◌+◌, ◌^◌, ◌≤◌, ◌<◌, max}
+use Prim.Native.Nat.{ℕ, ◌+◌, ◌^◌, ◌<◌, max}
 use native.Mathlib.Omega.{arith}
 use native.Mathlib.Decide.{ℕ_discrete}
 use lib.ListN.{length, get_or, set, replicate}
 use lib.Seq.{get_or-set_same, get_or-set_other, ext_get_or}
-use Rattle.graph.specs.Words.{pick, bit, row_from, row, members, lowest, is_in}
+use Rattle.graph.specs.Words.{pick, bit, row_from, row, members, is_in}
 use Rattle.graph.specs.Graph.{edge, Path, one, more, NoCycle, acyclic, longest_from}
 use Rattle.chains.specs.Tails.{tail, tails_of}
 use Rattle.chains.specs.Descent.{Sound, Within, Known, Visited}
 use Rattle.graph.proofs.Facts.{clash, length_row, row_at, first_in, tail_in}
-use Rattle.graph.proofs.Bits.{bit_zero}
 use Rattle.graph.proofs.Members.{in_held}
 use Rattle.graph.proofs.Rank.{acyclic_is}
 use Rattle.chains.proofs.Sixteen.{full, without, without_here, without_still, without_new}
@@ -65,10 +64,7 @@ module _ (succ times : List ℕ) (sound : Sound succ times) where
     }
 
     module _ (after : List ℕ) (unseen best rest : ℕ) (g : Going succ times u left before after unseen best rest)
-        (w less : ℕ) (c : w < 16) (e : w ≡ lowest 16 16 (bit rest)) (q : members rest ≡ lowest 16 16 (bit rest) ∷ members less) where
-      first : members rest ≡ w ∷ members less
-      first = q ∙ ap (λ (x : ℕ). x ∷ members less) (sym e)
-
+        (w less : ℕ) (c : w < 16) (first : members rest ≡ w ∷ members less) where
       leads : edge succ u w ≡ true
       leads = g.part w (ap (is_in w) first ∙ first_in w (members less))
 
@@ -95,7 +91,7 @@ module _ (succ times : List ℕ) (sound : Sound succ times) where
           new = λ k i. ⊎_elim (λ s. g.new k s) (λ h. inr (inr (onward succ u w k leads h))) (v.new k i);
           known = λ k d i p. ⊎_elim (λ s. v.kept k s ∙ g.known k d s p) (λ h. v.known k d i h) (v.new k i);
           kept = λ k s. v.kept k (g.still k s) ∙ g.kept k s;
-          most = most_more sums best rest less w best₁ e q (omega (arith, own, sum_tail 16 succ f (omega arith) sound.passes w c)) ∙ g.most;
+          most = most_more sums best rest less w best₁ first (omega (arith, own, sum_tail 16 succ f (omega arith) sound.passes w c)) ∙ g.most;
           part = λ k i. g.part k (ap (is_in k) first ∙ tail_in k w (members less) i);
         }
 
@@ -120,6 +116,16 @@ module _ (succ times : List ℕ) (sound : Sound succ times) where
 unfoldable pub Settled : List ℕ → List ℕ → ℕ → List ℕ → Type 0
 Settled succ times left tails = (k : ℕ) → k < 16 → bit left k ≡ false → get_or tails k 0 ≡ tail 16 (edge succ) (λ w. get_or times w 0) k
 
+-- a descent started from each below u
+abbrev pub Started : ℕ → ℕ → Type 0
+Started left u = (k : ℕ) → k < u → bit left k ≡ false
+
+pub started_next : {succ times before after : List ℕ} {u left now : ℕ} → Visited succ times u left before now after → Started left u → Started now (u + 1)
+started_next {u = u} v s k b = elim (ℕ_discrete k u) [
+  | yes e ↦ rw e v.here
+  | no d ↦ v.still k (s k (omega arith))
+]
+
 pub none_settled : (succ times tails : List ℕ) → Settled succ times 65535 tails
 unfolding Settled
 none_settled succ times tails k c i = absurd (clash (full k c) i)
@@ -133,17 +139,14 @@ module _ (succ times : List ℕ) (left : ℕ) (tails : List ℕ) (s : Settled su
   unfolding Settled Known
   settled_more u now after v k c i = ⊎_elim (λ o. v.kept k o ∙ s k c o) (λ h. v.known k c i h) (v.new k i)
 
-  pub settled_less : (u now : ℕ) (after : List ℕ) → Visited succ times u left tails now after → bit left u ≡ true → now ≤ left → now < left
-  settled_less u now after v here h = let d : now ≡ left → ⊥ = λ e. clash (ap (λ (n : ℕ). bit n u) e ∙ here) v.here in omega arith
-
-  pub all_settled : acyclic succ ≡ true → left ≡ 0 → length tails ≡ 16 → tails ≡ tails_of succ times
+  pub all_settled : acyclic succ ≡ true → Started left 16 → length tails ≡ 16 → tails ≡ tails_of succ times
   unfolding Settled tails_of
-  all_settled passes z n =
+  all_settled passes a n =
       ext_get_or 0 tails (row 16 (λ u. pick (acyclic succ) (tail 16 (edge succ) (λ w. get_or times w 0) u) 0))
       (n ∙ sym (length_row 16 _))
       (λ i b.
       let c : i < 16 = omega arith in
-      s i c (ap (λ (x : ℕ). bit x i) z ∙ bit_zero i)
+      s i c (a i c)
       ∙ sym (row_at 16 _ i 0 c ∙ ap (λ (d : Bool). pick d (tail 16 (edge succ) (λ w. get_or times w 0) i) 0) passes))
 
 -- where there is a cycle

@@ -5,7 +5,7 @@ use mathlib.Core.Bool.{Bool, true, false, ◌&&◌}
 use mathlib.Core.List.{List, [], ◌∷◌}
 use Prim.Native.Nat.{ℕ, ◌-◌, ◌^◌, ◌≤◌, ◌<◌, max}
 use native.Mathlib.Omega.{arith}
-use native.Mathlib.Decide.{ℕ_discrete}
+use native.Mathlib.Decide.{ℕ_discrete, dec_lt}
 use lib.ListN.{get_or}
 use lib.Dec.{eqb}
 use lib.Bits.{bit_and, and_le_r}
@@ -29,11 +29,11 @@ module _ (sums : List ℕ) where
   unfolding most_of
   most_end best rest e = let z = ap (most_of sums) (ap members e ∙ members_zero) in omega arith
 
-  pub most_more : (best rest less w m : ℕ) → w ≡ lowest 16 16 (bit rest) → members rest ≡ lowest 16 16 (bit rest) ∷ members less
+  pub most_more : (best rest less w m : ℕ) → members rest ≡ w ∷ members less
       → m ≡ max best (get_or sums w 0) → max m (most_of sums (members less)) ≡ max best (most_of sums (members rest))
   unfolding most_of
-  most_more best rest less w m e q h =
-      let z : most_of sums (members rest) ≡ max (get_or sums w 0) (most_of sums (members less)) = ap (most_of sums) (q ∙ sym (ap (λ (t : ℕ). t ∷ members less) e)) in
+  most_more best rest less w m q h =
+      let z : most_of sums (members rest) ≡ max (get_or sums w 0) (most_of sums (members less)) = ap (most_of sums) q in
       omega arith
 
   most_in : (l : List ℕ) (w : ℕ) → is_in w l ≡ true → get_or sums w 0 ≤ most_of sums l
@@ -78,10 +78,7 @@ module _ (sums : List ℕ) (left : ℕ) where
   unfolding head_with those
   with_end rest e = sym (ap (head_with sums left) (ap members e ∙ members_zero))
 
-  module _ (rest less w : ℕ) (e : w ≡ lowest 16 16 (bit rest)) (q : members rest ≡ lowest 16 16 (bit rest) ∷ members less) where
-    split : members rest ≡ w ∷ members less
-    split = q ∙ sym (ap (λ (t : ℕ). t ∷ members less) e)
-
+  module _ (rest less w : ℕ) (split : members rest ≡ w ∷ members less) where
     pub with_here : get_or sums w 0 ≡ left → w ≡ head_with sums left (members rest)
     unfolding head_with those also_if
     with_here h =
@@ -103,11 +100,14 @@ unfolding edge
 free_leads succ left x h w e =
     off_when _ (λ i. clash (B.bit_and_lem (get_or succ x 0) left w ∙ rw (e, i) refl) (ap (λ (n : ℕ). bit n w) h.1 ∙ B.bit_zero w))
 
--- where the highest below u is not one, it lies lower
-pub free_lower : (succ : List ℕ) (left x u : ℕ) → Free succ left x → x < u → (Free succ left (u - 1) → ⊥) → x < u - 1
-free_lower succ left x u h b n = elim (ℕ_discrete x (u - 1)) [
-  | yes e ↦ absurd (n (ap (bit left) (sym e) ∙ h.0, ap (λ (y : ℕ). bit_and (get_or succ y 0) left) (sym e) ∙ h.1))
-  | no d ↦ omega arith
+-- none from u on
+abbrev pub NoneFrom : List ℕ → ℕ → ℕ → Type 0
+NoneFrom succ left u = (x : ℕ) → u ≤ x → x < 16 → Free succ left x → ⊥
+
+pub none_lower : (succ : List ℕ) (left u : ℕ) → 0 < u → NoneFrom succ left u → (Free succ left (u - 1) → ⊥) → NoneFrom succ left (u - 1)
+none_lower succ left u p h n x a b f = elim (ℕ_discrete x (u - 1)) [
+  | yes e ↦ n (ap (bit left) (sym e) ∙ f.0, ap (λ (y : ℕ). bit_and (get_or succ y 0) left) (sym e) ∙ f.1)
+  | no d ↦ h x (omega arith) b f
 ]
 
 module _ (succ : List ℕ) (left : ℕ) (some : 0 < left) (small : left < 2 ^ 16) (passes : acyclic succ ≡ true) where
@@ -141,3 +141,10 @@ module _ (succ : List ℕ) (left : ℕ) (some : 0 < left) (small : left < 2 ^ 16
           B.bit_ext 16 (bit_and (get_or succ x 0) left) 0 (omega (arith, and_le_r (get_or succ x 0) left)) (omega arith)
           (λ j h. B.bit_and_lem (get_or succ x 0) left j ∙ none x e q j h (bit (get_or succ x 0) j) (bit left j) refl refl ∙ sym (B.bit_zero j)) in
           (x, b, (e, z))
+
+-- only the empty set has none
+pub none_free : (succ : List ℕ) (left : ℕ) → left < 2 ^ 16 → acyclic succ ≡ true → NoneFrom succ left 0 → left ≡ 0
+none_free succ left small passes n = elim (dec_lt 0 left) [
+  | yes p ↦ let f = some_free succ left p small passes in absurd (n f.0 (omega arith) f.1 f.2)
+  | no p ↦ omega arith
+]

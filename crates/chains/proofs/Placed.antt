@@ -182,6 +182,15 @@ module _ (succ times : List ℕ) where
         ∙ ap (λ (x : List ℕ). record { sum = longest 16 (edge succ) (λ u. get_or times u 0); count = length whole; vertices = x }) v
         ∙ ap (λ (b : Bool). answered (pick b (longest 16 (edge succ) (λ u. get_or times u 0)) 0) (pick b whole [])) (sym passes)
 
+-- the vertex of a turn, and that there is one
+module _ {succ times vertices known : List ℕ} {count from left : ℕ} (passes : acyclic succ ≡ true) (l : Listing succ times vertices count from left)
+    (k : known ≡ sums succ times) where
+  pub its_turn : {u : ℕ} → u ≡ first_with 16 known (bit from) left → (u < 16) × (count < 16) × (get_or times u 0 ≤ left)
+  its_turn {u} w = let t = turn succ times passes vertices count from left l u known k w in (t.0, t.1, t.2)
+
+  pub some_turn : 255 ≡ first_with 16 known (bit from) left → ⊥
+  some_turn w = let t = its_turn w in omega (arith, t.0)
+
 -- where there is a cycle
 pub cycle_answer : (succ times : List ℕ) → acyclic succ ≡ false
     → ◌≡◌ {A = ChainFound} (record { sum = 0; count = 0; vertices = replicate 16 255 }) (longest_chain succ times)

@@ -4,25 +4,22 @@ ghost use Rattle.std.specs.Prelude.{◌≡◌, ◌<◌, ◌≤◌, length};
 ghost use Rattle.chains.specs.Tails.{tails_of};
 ghost use Rattle.chains.specs.Descent.{Sound, Known, Visited};
 
-use crate::{ALL, first_of, larger, others, wide};
+use graph::set::Members;
 
 // Visits u and what it leads to, and writes their tails; `left` are those not visited yet, and the result is what is left of them. One that
 // was visited is not visited again, so that there are as many calls as edges and starts.
 fn descend(succ: &[u16; 16], times: &[u32; 16], u: usize, left: u16, tails: &mut [u64; 16]) -> u16
-    requires { (u < 16) × (length tails.old ≡ 16) × Sound succ.now times.now × Known succ.now times.now u left tails.old }
-    ensures { (length tails.new ≡ 16) × (result ≤ left) × Visited succ.now times.now u left tails.old result tails.new }
+    requires { (u < 16) × Sound succ.now times.now × Known succ.now times.now u left tails.old }
+    ensures { (result ≤ left) × Visited succ.now times.now u left tails.old result tails.new }
 {
     if (left >> u) % 2 == 0 {
         return left;
     }
-    let mut unseen = left & !(1u16 << u);
-    let mut best: u64 = 0;
-    let mut rest = succ[u];
-    while rest != 0 {
-        let w = first_of(rest);
-        rest = others(rest);
-        unseen = descend(succ, times, w, unseen, &mut *tails);
-        best = larger(best, wide(times[w]) + tails[w]);
+    let mut unseen = left & !(1 << u);
+    let mut best = 0u64;
+    for w in Members::from(succ[u]) {
+        unseen = descend(succ, times, w, unseen, tails);
+        best = best.max(u64::from(times[w]) + tails[w]);
     }
     tails[u] = best;
     unseen
@@ -32,13 +29,12 @@ fn descend(succ: &[u16; 16], times: &[u32; 16], u: usize, left: u16, tails: &mut
 pub fn tails_of(succ: [u16; 16], times: [u32; 16]) -> [u64; 16]
     ensures { result ≡ tails_of succ times }
 {
-    let mut tails = [0u64; 16];
+    let mut tails = [0; 16];
     if !graph::is_acyclic(succ) {
         return tails;
     }
-    let mut left = ALL;
-    while left != 0 {
-        let u = first_of(left);
+    let mut left = u16::MAX;
+    for u in 0..16 {
         left = descend(&succ, &times, u, left, &mut tails);
     }
     tails

@@ -1,96 +1,86 @@
 // The longest chain by name (document 02, M-102): of the chains with the largest sum the one whose list is first. The definitions are in specs/Chains.antt.
-ghost use Rattle.std.specs.Prelude.{◌≡◌, true, false, ℕ, ◌<◌, get_or};
+ghost use Rattle.std.specs.Prelude.{◌≡◌, true, false, ℕ, ◌<◌, get_or, MatchOption};
 ghost use Rattle.graph.specs.Words.{pick, bit, largest};
 ghost use Rattle.graph.specs.Graph.{edge, acyclic, longest_from};
 ghost use Rattle.chains.specs.Chains.{first_with, longest_chain};
 
-use crate::{ALL, ChainFound, first_of, larger, others, wide};
+use crate::ChainFound;
+use graph::set::Members;
 
 // The largest of a set's sums; 0 if the set is empty.
-fn largest_of(sums: [u64; 16], set: u16) -> u64
-    ensures { result ≡ largest 16 (λ w. pick (bit set w) (get_or sums w 0) 0) }
+fn largest_of(sums: &[u64; 16], set: u16) -> u64
+    ensures { result ≡ largest 16 (λ w. pick (bit set w) (get_or sums.now w 0) 0) }
 {
-    let mut best: u64 = 0;
-    let mut rest = set;
-    while rest != 0 {
-        let w = first_of(rest);
-        best = larger(best, sums[w]);
-        rest = others(rest);
+    let mut best = 0u64;
+    for w in Members::from(set) {
+        best = best.max(sums[w]);
     }
     best
 }
 
-// The highest of a set that leads to none of it; where no cycle is, there is one.
-fn free_of(succ: [u16; 16], left: u16) -> usize
-    requires { (0 < left) × (acyclic succ ≡ true) }
-    ensures { (result < 16) × (bit left result ≡ true) × ((w : ℕ) → edge succ result w ≡ true → bit left w ≡ false) }
+// The highest of a set that leads to none of it. Where there is no cycle only the empty set has none.
+fn free_of(succ: &[u16; 16], left: u16) -> Option<usize>
+    requires { acyclic succ.now ≡ true }
+    ensures { MatchOption result (left ≡ 0) (λ u. (u < 16) × (bit left u ≡ true) × ((w : ℕ) → edge succ.now u w ≡ true → bit left w ≡ false)) }
 {
-    let mut u: usize = 16;
-    loop {
-        u -= 1;
-        if (left >> u) % 2 == 1 {
-            if succ[u] & left == 0 {
-                return u;
-            }
+    for u in (0..16).rev() {
+        if (left >> u) % 2 == 1 && succ[u] & left == 0 {
+            return Some(u);
         }
     }
+    None
 }
 
 // The largest sum along a chain from each vertex: one is reckoned when all that it leads to are.
-fn sums_from(succ: [u16; 16], times: [u32; 16]) -> [u64; 16]
-    requires { acyclic succ ≡ true }
-    ensures { result ≡ longest_from 16 (edge succ) (λ u. get_or times u 0) 16 }
+fn sums_from(succ: &[u16; 16], times: &[u32; 16]) -> [u64; 16]
+    requires { acyclic succ.now ≡ true }
+    ensures { result ≡ longest_from 16 (edge succ.now) (λ u. get_or times.now u 0) 16 }
 {
-    let mut sums = [0u64; 16];
-    let mut left = ALL;
-    while left != 0 {
-        let u = free_of(succ, left);
-        let after = largest_of(sums, succ[u]);
-        sums[u] = after + wide(times[u]);
-        left &= !(1u16 << u);
+    let mut sums = [0; 16];
+    let mut left = u16::MAX;
+    while let Some(u) = free_of(succ, left) {
+        sums[u] = largest_of(&sums, succ[u]) + u64::from(times[u]);
+        left &= !(1 << u);
     }
     sums
 }
 
-// The lowest of a set that has just what is left for its sum; 255 if there is none.
-fn first_with(sums: [u64; 16], set: u16, left: u64) -> usize
-    ensures { result ≡ first_with 16 sums (bit set) left }
+// The lowest of a set that has just what is left for its sum.
+fn first_with(sums: &[u64; 16], set: u16, left: u64) -> Option<usize>
+    ensures { MatchOption result (255 ≡ first_with 16 sums.now (bit set) left) (λ w. w ≡ first_with 16 sums.now (bit set) left) }
 {
-    let mut rest = set;
-    while rest != 0 {
-        let w = first_of(rest);
+    for w in Members::from(set) {
         if sums[w] == left {
-            return w;
+            return Some(w);
         }
-        rest = others(rest);
     }
-    255
+    None
 }
 
 // Where there is no cycle: the lowest vertex with the whole sum, then the lowest successor with just what is left, until nothing is.
-fn first_chain(succ: [u16; 16], times: [u32; 16]) -> ChainFound
-    requires { acyclic succ ≡ true }
-    ensures { result ≡ longest_chain succ times }
+fn first_chain(succ: &[u16; 16], times: &[u32; 16]) -> ChainFound
+    requires { acyclic succ.now ≡ true }
+    ensures { result ≡ longest_chain succ.now times.now }
 {
     let sums = sums_from(succ, times);
-    let sum = largest_of(sums, ALL);
-    let mut vertices = [255u8; 16];
-    let mut count: usize = 0;
-    let mut set = ALL;
+    let sum = largest_of(&sums, u16::MAX);
+    let mut vertices = [255; 16];
+    let mut count = 0;
+    let mut set = u16::MAX;
     let mut left = sum;
-    loop {
-        let u = first_with(sums, set, left);
+    while let Some(u) = first_with(&sums, set, left) {
         vertices[count] = u as u8;
         count += 1;
-        left -= wide(times[u]);
+        left -= u64::from(times[u]);
         if left == 0 {
-            return ChainFound {
-                sum: sum,
-                count: count as u8,
-                vertices: vertices,
-            };
+            break;
         }
         set = succ[u];
+    }
+    ChainFound {
+        sum,
+        count: count as u8,
+        vertices,
     }
 }
 
@@ -99,11 +89,12 @@ pub fn longest_chain(succ: [u16; 16], times: [u32; 16]) -> ChainFound
     ensures { result ≡ longest_chain succ times }
 {
     if graph::is_acyclic(succ) {
-        return first_chain(succ, times);
-    }
-    ChainFound {
-        sum: 0,
-        count: 0,
-        vertices: [255u8; 16],
+        first_chain(&succ, &times)
+    } else {
+        ChainFound {
+            sum: 0,
+            count: 0,
+            vertices: [255; 16],
+        }
     }
 }

@@ -1,4 +1,5 @@
-use Rattle.std.proofs.Common.{length, length-set, ap, ◌∙◌, arith, rules}
+use Rattle.std.proofs.Common.{arith, rules}
+use Rattle.graph.proofs.Members.{took}
 use Rattle.chains.proofs.Sixteen.{not_in, is_in_lem, without_less}
 use Rattle.chains.proofs.Descent.{visited_same, going_first, going_known, going_small, going_more, going_last}
 use Rattle.chains.proofs.descending.+descend.Goals as goal
@@ -7,75 +8,76 @@ pub returns-then-left-u-eq0 : goal.returns-then-left-u-eq0
 returns-then-left-u-eq0 t c =
     let a = c.args in
     let p = c.requires in
-    (p.1, omega arith, visited_same a.succ.now a.times.now a.u a.left a.tails.now (not_in a.left a.u c.if-left-u-eq0.true) p.3)
+    (omega arith, visited_same a.succ.now a.times.now a.u a.left a.tails.now (not_in a.left a.u c.if-left-u-eq0.true) p.2)
 
-pub loop-rest-init : goal.loop-rest-init
-loop-rest-init t c =
+pub loop-w-init : goal.loop-w-init
+loop-w-init t c =
     let a = c.args in
-    let p = c.requires in (
-      p.1,
+    let p = c.requires in
+    rw (c.into_iter-w-iterator.ensures.into_iter_gives, c.from-w-items.ensures) (
+      c.fits-succ a.u,
+      c.told-tails,
       without_less a.left a.u p.0 (is_in_lem a.left a.u c.if-left-u-eq0.false),
-      going_first a.succ.now a.times.now p.2 a.u a.left a.tails.now p.0 (search rules) p.3,
+      going_first a.succ.now a.times.now p.1 a.u a.left a.tails.now p.0 (search rules) p.2,
     )
 
 pub descend-unseen-requires : goal.descend-unseen-requires
 descend-unseen-requires t c =
-    let l = c.loop-rest in
+    let l = c.loop-w in
     let a = c.args in
-    let w = c.first_of-w in
-    let o = c.others-rest in
-    let p = c.requires in (
-      omega (arith, c.decreases, l.invariant.1),
+    let p = c.requires in
+    let s = took c.in-Some.ensures.steps l.invariant.0 in (
+      omega (arith, c.decreases, l.invariant.2),
       (
-        w.ensures.1,
-        l.invariant.0,
-        p.2,
-        going_known a.succ.now a.times.now p.2 a.u a.left a.tails.now p.0 l.tails l.unseen l.best l.rest l.invariant.2
-            w.result o.result w.ensures.1 w.ensures.0 o.ensures,
+        s.below,
+        p.1,
+        going_known a.succ.now a.times.now p.1 a.u a.left a.tails.now p.0 l.tails l.unseen l.best l.w-iterator.rest l.invariant.3
+            c.in-Some.w c.next.new.self.rest s.below s.listed,
       ),
     )
 
-pub overflow_add-wide : goal.overflow_add-wide
-overflow_add-wide t c =
-    let l = c.loop-rest in
+pub bounds-times-w : goal.bounds-times-w
+bounds-times-w t c = (took c.in-Some.ensures.steps c.loop-w.invariant.0).below
+
+pub bounds-tails-w : goal.bounds-tails-w
+bounds-tails-w t c = (took c.in-Some.ensures.steps c.loop-w.invariant.0).below
+
+pub overflow_add-from : goal.overflow_add-from
+overflow_add-from t c =
+    let l = c.loop-w in
     let a = c.args in
-    let w = c.first_of-w in
-    let o = c.others-rest in
     let p = c.requires in
     let d = c.descend-unseen in
+    let s = took c.in-Some.ensures.steps l.invariant.0 in
     omega (
       arith,
-      going_small a.succ.now a.times.now p.2 a.u a.left a.tails.now p.0 l.tails l.unseen l.best l.rest l.invariant.2
-          w.result o.result w.ensures.1 w.ensures.0 o.ensures
-          d.result d.new.tails d.ensures.2 c.wide.result c.wide.ensures.0,
+      going_small a.succ.now a.times.now p.1 a.u a.left a.tails.now p.0 l.tails l.unseen l.best l.w-iterator.rest l.invariant.3
+          c.in-Some.w c.next.new.self.rest s.below s.listed
+          d.result d.new.tails d.ensures.1 c.from.result c.from.ensures,
     )
 
-pub loop-rest-smaller : goal.loop-rest-smaller
-loop-rest-smaller t c = omega (arith, ap length c.others-rest.ensures)
-
-pub loop-rest-preserved : goal.loop-rest-preserved
-loop-rest-preserved t c =
-    let l = c.loop-rest in
+pub loop-w-preserved : goal.loop-w-preserved
+loop-w-preserved t c =
+    let l = c.loop-w in
     let a = c.args in
-    let w = c.first_of-w in
-    let o = c.others-rest in
     let p = c.requires in
-    let d = c.descend-unseen in (
-      d.ensures.0,
-      omega (arith, l.invariant.1, d.ensures.1),
-      going_more a.succ.now a.times.now p.2 a.u a.left a.tails.now p.0 l.tails l.unseen l.best l.rest l.invariant.2
-          w.result o.result w.ensures.1 w.ensures.0 o.ensures
-          d.result d.new.tails d.ensures.2 c.wide.result c.wide.ensures.0
-          c.larger-best.result c.larger-best.ensures,
+    let d = c.descend-unseen in
+    let s = took c.in-Some.ensures.steps l.invariant.0 in (
+      s.small,
+      d.array_long,
+      omega (arith, l.invariant.2, d.ensures.0),
+      going_more a.succ.now a.times.now p.1 a.u a.left a.tails.now p.0 l.tails l.unseen l.best l.w-iterator.rest l.invariant.3
+          c.in-Some.w c.next.new.self.rest s.below s.listed
+          d.result d.new.tails d.ensures.1 c.from.result c.from.ensures
+          c.max-best.result c.max-best.ensures,
     )
 
 pub returns : goal.returns
 returns t c =
-    let l = c.loop-rest in
+    let l = c.loop-w in
     let a = c.args in
     let p = c.requires in (
-      length-set l.tails _ _ ∙ l.invariant.0,
-      omega (arith, l.invariant.1),
-      going_last a.succ.now a.times.now p.2 a.u a.left a.tails.now p.0 l.tails l.unseen l.best l.rest l.invariant.2
-          (omega arith) l.invariant.0 (is_in_lem a.left a.u c.if-left-u-eq0.false),
+      omega (arith, l.invariant.2),
+      going_last a.succ.now a.times.now p.1 a.u a.left a.tails.now p.0 l.tails l.unseen l.best l.w-iterator.rest l.invariant.3
+          c.in-None.ensures.steps.0 l.invariant.1 (is_in_lem a.left a.u c.if-left-u-eq0.false),
     )

@@ -3,8 +3,8 @@ use Prim.Native.Nat.{◌-◌}
 use Rattle.chains.proofs.Placed.{Listing}
 use Rattle.chains.proofs.listing.first_chain.Given as goal
 
-abbrev pub invariant-loop-left : goal.invariant-loop-left
-invariant-loop-left l = Listing l.succ l.times l.vertices l.count l.set l.left
+abbrev pub invariant-loop-u : goal.invariant-loop-u
+invariant-loop-u l = Listing l.succ l.times l.vertices l.count l.set l.left
 
-abbrev pub decreases-loop-left : goal.decreases-loop-left
-decreases-loop-left l = 16 - l.count
+abbrev pub decreases-loop-u : goal.decreases-loop-u
+decreases-loop-u l = 16 - l.count

@@ -2,8 +2,8 @@
 use Rattle.chains.proofs.Backward.{Reckoned}
 use Rattle.chains.proofs.listing.sums_from.Given as goal
 
-abbrev pub invariant-loop-left : goal.invariant-loop-left
-invariant-loop-left l = Reckoned l.succ l.times l.left l.sums
+abbrev pub invariant-loop-u : goal.invariant-loop-u
+invariant-loop-u l = Reckoned l.succ l.times l.left l.sums
 
-abbrev pub decreases-loop-left : goal.decreases-loop-left
-decreases-loop-left l = l.left
+abbrev pub decreases-loop-u : goal.decreases-loop-u
+decreases-loop-u l = l.left
