@@ -7,10 +7,12 @@ use Prim.Native.Nat.{ℕ, ◌+◌, ◌*◌, ◌-◌, ◌≤◌, ◌<◌}
 use native.Mathlib.Omega.{arith}
 use native.Mathlib.Decide.{ℕ_discrete}
 use lib.Dec.{ltb, eqb}
-use lib.ListN.{get_or, take}
+use lib.ListN.{length, get_or, set, take}
+use lib.Seq.{get_or-set_same, get_or-set_other, get_or-take, length-take-le}
 use lib.Signed.{clash_ℤ}
 use borrow.Author.Tests.{ltb-true, ltb-false, ne_eqb}
 use Rattle.graph.specs.Words.{sum, row}
+use Rattle.graph.proofs.Facts.{sum_same}
 use Rattle.graph.specs.Graph.{longest_of}
 use Rattle.table.specs.declared.Table.{Table}
 use Rattle.table.specs.declared.Outcome.TheVariants.{Read}
@@ -25,9 +27,11 @@ use Rattle.verdict.specs.Verdicts.{vol, len, rounded_up, due, margin, verdict_on
 use Rattle.verdict.proofs.Amounts.{vol_high, len_vol, allowance_high}
 use Rattle.verdict.proofs.Margins.{not_negative, not_less}
 use Rattle.verdict.proofs.Says.{Says, unreadable, refused, accepted, table_says, verdict_says}
-use Rattle.verdict.proofs.Figured.{len_found, due_found, due_ready}
+use Rattle.verdict.proofs.Figured.{len_found}
 use Rattle.verdict.proofs.Judged.{good_read, verdict_got}
+use Rattle.quick.specs.declared.sums.Load.{Load}
 use Rattle.quick.specs.Quick.{quick}
+use Rattle.quick.specs.Loads.{no_load, load, Loads, owed}
 
 -- what task k spends, and that it is within what it may
 abbrev pub Spent : Table → ℕ → ℕ
@@ -35,6 +39,35 @@ Spent t k = (t.m - 1) * len t k + due t k
 
 abbrev pub Passes : Table → ℕ → Type 0
 Passes t k = Spent t k ≤ t.m * D t k
+
+-- ---- the loads: none yet, one more, and the first n of the sixteen
+pub loads_none : (t : Table) (l : List Load) → Loads t 0 l
+loads_none t l = record { period_is = λ i b. absurd (omega arith); vol_is = λ i b. absurd (omega arith) }
+
+pub loads_next : (t : Table) (i : ℕ) (l : List Load) (x : Load) → i < length l → x.period ≡ T t i → x.vol ≡ vol t i → Loads t i l → Loads t (i + 1) (set l i x)
+loads_next t i l x b p v r = record {
+  period_is = λ j c. elim (ℕ_discrete j i) [
+    | yes q ↦ rw q (ap (λ (y : Load). y.period) (get_or-set_same l i x no_load b) ∙ p)
+    | no q ↦ ap (λ (y : Load). y.period) (get_or-set_other l i j x no_load q) ∙ r.period_is j (omega arith)
+  ];
+  vol_is = λ j c. elim (ℕ_discrete j i) [
+    | yes q ↦ rw q (ap (λ (y : Load). y.vol) (get_or-set_same l i x no_load b) ∙ v)
+    | no q ↦ ap (λ (y : Load). y.vol) (get_or-set_other l i j x no_load q) ∙ r.vol_is j (omega arith)
+  ];
+}
+
+pub loads_taken : (t : Table) (n : ℕ) (l : List Load) → n ≡ t.n → t.n ≤ length l → Loads t t.n l
+    → (length (take n l) ≡ t.n) × Loads t (length (take n l)) (take n l)
+loads_taken t n l e h r = (
+  whole,
+  record {
+    period_is = λ i b. ap (λ (y : Load). y.period) (get_or-take n l i no_load (omega (arith, whole))) ∙ r.period_is i (omega (arith, whole));
+    vol_is = λ i b. ap (λ (y : Load). y.vol) (get_or-take n l i no_load (omega (arith, whole))) ∙ r.vol_is i (omega (arith, whole));
+  },
+)
+  where
+    whole : length (take n l) ≡ t.n
+    whole = length-take-le n l (omega arith) ∙ e
 
 -- ---- a good table
 module _ (t : Table) (good : GoodTable t) where
@@ -52,24 +85,30 @@ module _ (t : Table) (good : GoodTable t) where
       (λ r. rw r.0)
       (table_says t good)
 
-  -- ---- one task, over rows that hold the periods and the vols
-  module _ (k : ℕ) (b : k < t.n) (times vols : List ℕ)
-      (p : (i : ℕ) → i < t.n → get_or times i 0 ≡ T t i) (q : (i : ℕ) → i < t.n → get_or vols i 0 ≡ vol t i) where
-    abbrev pub Sum : ℕ
-    Sum = sum t.n (λ i. rounded_up (D t k) (get_or times i 0) * get_or vols i 0)
+  -- ---- one task, over the loads of all
+  module _ (k : ℕ) (b : k < t.n) (l : List Load) (n : ℕ) (whole : n ≡ t.n) (h : Loads t n l) where
+    owed_is : owed l n (D t k) ≡ due t k
+    unfolding owed due
+    owed_is =
+        ap (λ (x : ℕ). sum x (λ i. rounded_up (D t k) (load l i).period * (load l i).vol)) whole
+        ∙ sum_same t.n _ _ (λ i c. ap₂ (λ (x y : ℕ). rounded_up (D t k) x * y) (h.period_is i (omega arith)) (h.vol_is i (omega arith)))
 
     -- what `due_within` requires
-    pub within_ready : (t.n ≤ 16) × (D t k ≤ 1000000)
-        × ((i : ℕ) → i < t.n → (1 ≤ get_or times i 0) × (get_or times i 0 ≤ 1000000) × (get_or vols i 0 ≤ 16000000))
-        × (t.m * D t k ≤ 8000000)
-    within_ready = let r = due_ready t good k b times vols p q in (r.0, r.1, r.2, allowance_high t good k b)
+    pub within_ready : (D t k ≤ 1000000) × (t.m * D t k ≤ 8000000) × ((i : ℕ) → i < n → (1 ≤ (load l i).period) × ((load l i).vol ≤ 16000000))
+    within_ready = (
+      (good.each k b).D_high,
+      allowance_high t good k b,
+      λ i c.
+          let d : i < t.n = omega arith in
+          (omega (arith, (good.each i d).T_low, h.period_is i c), omega (arith, vol_high t good i d, h.vol_is i c)),
+    )
 
     -- what it then gives
-    pub over_due : (y : ℕ) → (t.m * D t k < y → t.m * D t k < Sum) → t.m * D t k < y → false ≡ eqb (verdict_on t).number 0
-    over_due y h l = no_at k b (omega (arith, h l, due_found t good k b times vols p q Sum refl))
+    pub over_due : (y : ℕ) → (t.m * D t k < y → t.m * D t k < owed l n (D t k)) → t.m * D t k < y → false ≡ eqb (verdict_on t).number 0
+    over_due y f c = no_at k b (omega (arith, f c, owed_is))
 
-    pub due_is : (y : ℕ) → (y ≤ t.m * D t k → y ≡ Sum) → y ≤ t.m * D t k → y ≡ due t k
-    due_is y h l = due_found t good k b times vols p q y (h l)
+    pub due_is : (y : ℕ) → (y ≤ t.m * D t k → y ≡ owed l n (D t k)) → y ≤ t.m * D t k → y ≡ due t k
+    due_is y f c = f c ∙ owed_is
 
     -- the longest chain, as `chain_exceeds` finds it
     abbrev pub Longest : ℕ
@@ -79,15 +118,15 @@ module _ (t : Table) (good : GoodTable t) where
     is_len = len_found t good k b Longest refl
 
     -- what it requires
-    pub chain_ready : (k < 16) × (t.m - 1 ≤ 7) × (get_or vols k 0 ≤ 16000000) × (Longest ≤ get_or vols k 0)
+    pub chain_ready : (k < 16) × (t.m - 1 ≤ 7) × ((load l k).vol ≤ 16000000) × (Longest ≤ (load l k).vol)
     chain_ready =
-        let h = good.n_high in
+        let high = good.n_high in
         let m = good.m_high in
-        let v = q k b in
+        let v = h.vol_is k (omega arith) in
         (omega arith, omega arith, omega (arith, vol_high t good k b), omega (arith, is_len, len_vol t good k b))
 
     -- what it then gives, where the due work y alone is not too much
-    module _ (y : ℕ) (d : y ≡ due t k) (h : y ≤ t.m * D t k) where
+    module _ (y : ℕ) (d : y ≡ due t k) (within : y ≤ t.m * D t k) where
       spent : (t.m - 1) * Longest + y ≡ Spent t k
       spent = ap₂ (λ (x z : ℕ). (t.m - 1) * x + z) is_len d
 

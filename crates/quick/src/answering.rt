@@ -9,31 +9,26 @@ use table::{Outcome, Table};
 
 // The allowance, m times D less (m minus 1) times len, may be negative: so both sides are kept positive. The due work grows task by
 // task, and the chain is looked for only where that alone is within m times D.
-fn quick_on(t: Table) -> bool
-    requires { GoodTable t }
-    ensures { result ≡ eqb (verdict_on t).number 0 }
+fn quick_on(t: &Table) -> bool
+    requires { GoodTable t.now }
+    ensures { result ≡ eqb (verdict_on t.now).number 0 }
 {
-    let vols = sums::volumes(t);
-    let times = sums::periods(t);
-    let n = t.n as usize;
-    let m = t.m as u64;
+    let n = usize::from(t.n);
+    let all = sums::loads_of(t);
+    let loads = &all[..n];
+    let m = u64::from(t.m);
     let fewer = m - 1;
-    let mut k: usize = 0;
-    while k < n {
+    for k in 0..n {
         let x = t.tasks[k];
-        let d = x.d as u64;
-        let most = m * d;
-        let due = sums::due_within(n, x.d, times, vols, most);
+        let most = m * u64::from(x.d);
+        let due = sums::due_within(loads, x.d, most);
         if most < due {
             return false;
         }
-        let succ = x.succ;
-        let vol = vols[k];
         let room = most - due;
-        if sums::chain_exceeds(&t.costs, k, succ, vol, fewer, room) {
+        if sums::chain_exceeds(&t.costs, k, x.succ, loads[k].vol, fewer, room) {
             return false;
         }
-        k += 1;
     }
     true
 }
@@ -47,6 +42,5 @@ pub fn quick(bytes: &[u8]) -> bool
     let Outcome::Read = o else {
         return false;
     };
-    let t = l.table;
-    quick_on(t)
+    quick_on(&l.table)
 }

@@ -1,8 +1,7 @@
 -- Laws that the proofs of the code cite: the closed form in the machine's numbers, which nothing wraps, and what it comes to over a row of a good table's
 -- tasks and vertices.
-use mathlib.Core.Path.{◌≡◌, refl, sym, ap, ap₂, subst, ◌∙◌}
-use mathlib.Core.Logic.{⊎_elim}
-use mathlib.Core.Bool.{Bool, false}
+use mathlib.Core.Path.{◌≡◌, refl, sym, ap, ap₂, ◌∙◌}
+use mathlib.Core.Bool.{Bool}
 use mathlib.Core.List.{List}
 use Prim.Native.Nat.{ℕ, zero, suc, ◌+◌, ◌*◌, ◌-◌, ◌/◌, ◌%◌, ◌≤◌, ◌<◌, min, max}
 use native.Mathlib.Omega.{arith}
@@ -12,12 +11,10 @@ use native.Mathlib.Decide.{ℕ_discrete}
 use lib.ListN.{length, get_or, set, length-set}
 use lib.Seq.{get_or-set_same, get_or-set_other}
 use borrow.Author.Tests.{lt-ltb, le-ltb}
-use Rattle.graph.specs.Words.{pick, sum, largest, lowest}
-use Rattle.graph.proofs.Facts.{lowest_is, lowest_none}
+use Rattle.graph.specs.Words.{pick, sum, largest}
 use Rattle.verdict.specs.Verdicts.{rounded_up}
 use Rattle.verdict.proofs.Amounts.{sum_most, up_most}
 use Rattle.verdict.proofs.Figured.{sum_next}
-use Rattle.verdict.proofs.Orders.{Lowest, search_low}
 use Rattle.sharp.specs.Closed.{below, ramp, part, asked_from, due_by}
 use Rattle.sharp.proofs.Sums.{ramp_whole, part_sum}
 
@@ -26,19 +23,19 @@ square_least : (r : ℕ) → r ≤ r * r
 square_least zero = omega arith
 square_least (suc r) = omega (arith, mul-suc (suc r) r)
 
-pub ramp_steps : (y t r p q : ℕ) → y ≤ 1000000 → 1 ≤ t → r ≡ (y + (t - 1)) / t → p ≡ y → q ≡ t
+pub ramp_steps : (y t r p q : ℕ) → y ≤ 1000000 → 1 ≤ t → r ≡ rounded_up y t → p ≡ y → q ≡ t
     → (r * p ≤ 1000000000000) × (r * r ≤ 1000000000000) × (r ≤ r * r) × (q * ((r * r - r) / 2) ≤ r * p) × (r * p - q * ((r * r - r) / 2) ≡ ramp y t)
-unfolding ramp rounded_up below
+unfolding ramp below
 ramp_steps y t r p q high one e f g =
     rw (e, f, g) (
       omega (arith, mul-le-mul {n₂ = 1000000} {m₂ = 1000000} few high),
       omega (arith, mul-le-mul {n₂ = 1000000} {m₂ = 1000000} few few),
-      square_least ((y + (t - 1)) / t),
+      square_least (rounded_up y t),
       ramp_whole y t one,
       refl,
     )
   where
-    few : (y + (t - 1)) / t ≤ 1000000
+    few : rounded_up y t ≤ 1000000
     few = omega (arith, up_most y t one)
 
 -- ---- what a vertex asks for
@@ -95,23 +92,6 @@ unfolding due_by
 due_next costs tails counts periods i d x e =
     sum_next i (λ i. asked_from costs tails (16 * i) (get_or counts i 0) d (get_or periods i 0))
     ∙ ap (λ (z : ℕ). sum i (λ i. asked_from costs tails (16 * i) (get_or counts i 0) d (get_or periods i 0)) + z) (sym e)
-
--- ---- the lowest that passes a test, n where none does
-module _ (n : ℕ) (p : ℕ → Bool) (y : ℕ) (e : y ≡ lowest n n p) where
-  pub lowest_there : y < n → Lowest n p y
-  lowest_there h = ⊎_elim
-      (λ r. subst (Lowest n p) (sym (e ∙ lowest_is n n p r.0 r.1.0 r.1.1 r.1.2)) r.1)
-      (λ none. absurd (omega (arith, e ∙ lowest_none n n p none)))
-      (search_low n p)
-
-  pub lowest_nowhere : n ≤ y → (k : ℕ) → k < n → p k ≡ false
-  lowest_nowhere h = ⊎_elim
-      (λ r. absurd (omega (arith, r.1.0, e ∙ lowest_is n n p r.0 r.1.0 r.1.1 r.1.2)))
-      (λ none. none)
-      (search_low n p)
-
-  pub lowest_end : n ≤ y → lowest n n p ≡ n
-  lowest_end h = lowest_none n n p (lowest_nowhere h)
 
 -- ---- the largest of some
 pub largest_next : (n : ℕ) (f : ℕ → ℕ) → largest (n + 1) f ≡ max (largest n f) (f n)

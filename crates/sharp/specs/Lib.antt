@@ -2,4 +2,5 @@
 pub mod Sharp
 -- How the code goes about it, for the contracts of its parts.
 pub mod Closed
+pub mod Ranges
 pub mod Gathered

@@ -1,78 +1,122 @@
-// The rows of a table's tasks, and their tails.
-ghost use Rattle.std.specs.Prelude.{◌≡◌, ℕ, ◌+◌, ◌*◌, ◌≤◌, ◌<◌, length, get_or};
-ghost use Rattle.graph.specs.Words.{largest};
-ghost use Rattle.table.specs.Good.{GoodTable};
-ghost use Rattle.sharp.specs.Gathered.{table_of, Gathered};
+// What the sharp figures of a table's tasks are made of, and the figures that follow: due work and margin. Document 02, M-107.
+ghost use Rattle.sharp.specs.Ranges.{InRange};
 
-use crate::TaskRows;
-use table::Task;
+use crate::{closed, putting};
+use table::Table;
+use verdict::Decided;
 
-// The largest of cost and tail together.
-fn longest_of(own: [u32; 16], tails: [u64; 16]) -> u64
-    requires { (u : ℕ) → get_or tails u 0 ≤ 16000000 }
-    ensures { result ≡ largest 16 (λ u. get_or own u 0 + get_or tails u 0) }
-{
-    let mut best: u64 = 0;
-    let mut u: usize = 0;
-    while u < 16 {
-        let sum = own[u] as u64 + tails[u];
-        if best < sum {
-            best = sum;
+// A row of sixteen for each, beside the table's costs and its tails, and no array of tasks: `Findings`, which reports show, takes the rows as
+// they are.
+#[derive(Drop)]
+pub struct Gathering<'a> {
+    pub m: u8,
+    pub n: u8,
+    pub deadlines: [u32; 16],
+    pub periods: [u32; 16],
+    pub counts: [u8; 16],
+    pub vols: [u64; 16],
+    pub lens: [u64; 16],
+    pub costs: &'a [u32; 256],
+    pub tails: &'a [u32; 256],
+    ghost in_range: { InRange n deadlines periods counts costs.now },
+}
+
+impl<'a> Gathering<'a> {
+    ghost use Rattle.std.specs.Prelude.{◌≡◌, ◌<◌, length};
+    ghost use Rattle.std.specs.Option.{MatchOption};
+    ghost use Rattle.table.specs.declared.Table.{Table};
+    ghost use Rattle.table.specs.Good.{GoodTable};
+    ghost use Rattle.verdict.specs.Verdicts.{up_to};
+    ghost use Rattle.verdict.specs.Measured.{decided};
+    ghost use Rattle.sharp.specs.Sharp.{sharp_due, sharp_on};
+    ghost use Rattle.sharp.specs.Gathered.{Gathered, due_in, margin_in, NoneLate, FirstLate};
+
+    // Those of a good table; its tails go to the row that is lent.
+    pub fn of(t: &'a Table, tails: &'a mut [u32; 256]) -> Self
+        requires { GoodTable t.now × (length tails.old ≡ 256) }
+        ensures { Gathered t.now result }
+    {
+        let mut deadlines = [0u32; 16];
+        let mut periods = [0u32; 16];
+        let mut counts = [0u8; 16];
+        let mut vols = [0u64; 16];
+        let mut lens = [0u64; 16];
+        for i in 0..usize::from(t.n) {
+            let x = t.tasks[i];
+            let own = verdict::own_costs(&t.costs, i);
+            let after = chains::tails_of(x.succ, own);
+            deadlines[i] = x.d;
+            periods[i] = x.t;
+            counts[i] = x.v;
+            vols[i] = verdict::total_of(own);
+            lens[i] = putting::longest_of(own, after);
+            putting::put_tails(tails, i, after);
         }
-        u += 1;
+        Gathering {
+            m: t.m,
+            n: t.n,
+            deadlines,
+            periods,
+            counts,
+            vols,
+            lens,
+            costs: &t.costs,
+            tails,
+        }
     }
-    best
-}
 
-// A task's sixteen tails at its sixteen places of the row.
-fn put_tails(row: &mut [u32; 256], i: usize, tails: [u64; 16])
-    requires { (i < 16) × (length row.old ≡ 256) × ((u : ℕ) → get_or tails u 0 ≤ 16000000) }
-    ensures { (length row.new ≡ 256) × ((u : ℕ) → u < 16 → get_or row.new (16 * i + u) 0 ≡ get_or tails u 0) × ((j : ℕ) → j < 16 * i → get_or row.new j 0 ≡ get_or row.old j 0) }
-{
-    let mut u: usize = 0;
-    while u < 16 {
-        row[16 * i + u] = tails[u] as u32;
-        u += 1;
+    // What all tasks ask for within task k's deadline.
+    pub fn due(&self, k: usize) -> u64
+        requires { k < self.now.n }
+        ensures { result ≡ due_in self.now k }
+    {
+        let d = self.deadlines[k];
+        let mut due: u64 = 0;
+        for i in 0..usize::from(self.n) {
+            let v = usize::from(self.counts[i]);
+            due += closed::asked_from(self.costs, self.tails, 16 * i, v, d, self.periods[i]);
+        }
+        due
     }
-}
 
-// The rows of a good table, which comes in its parts, and its tails.
-pub(crate) fn gathered(
-    m: u8,
-    n: u8,
-    tasks: [Task; 16],
-    costs: &[u32; 256],
-    tails: &mut [u32; 256],
-) -> TaskRows
-    requires { GoodTable (table_of m n tasks costs.now) × (length tails.old ≡ 256) }
-    ensures { Gathered (table_of m n tasks costs.now) costs.now tails.new result }
-{
-    let mut deadlines = [0u32; 16];
-    let mut periods = [0u32; 16];
-    let mut counts = [0u8; 16];
-    let mut vols = [0u64; 16];
-    let mut lens = [0u64; 16];
-    let mut i: usize = 0;
-    while i < n as usize {
-        let x = tasks[i];
-        let succ = x.succ;
-        let own = verdict::own_costs(costs, i);
-        let after = chains::tails_of(succ, own);
-        deadlines[i] = x.d;
-        periods[i] = x.t;
-        counts[i] = x.v;
-        vols[i] = verdict::total_of(own);
-        lens[i] = longest_of(own, after);
-        put_tails(&mut *tails, i, after);
-        i += 1;
+    // The sharp margin of task k.
+    pub fn margin(&self, k: usize) -> i64
+        requires { k < self.now.n }
+        ensures { result ≡ margin_in self.now k }
+    {
+        verdict::margin_from(self.m, self.deadlines[k], self.lens[k], self.due(k))
     }
-    TaskRows {
-        m: m,
-        n: n,
-        deadlines: deadlines,
-        periods: periods,
-        counts: counts,
-        vols: vols,
-        lens: lens,
+
+    // The sharp due work for each task of the table.
+    pub fn dues(&self) -> [u64; 16]
+        ensures { (t : Table) → GoodTable t → Gathered t self.now → result ≡ up_to t.n (sharp_due t) }
+    {
+        verdict::figures_up_to(self.n, |k| self.due(k))
+    }
+
+    // The lowest task whose longest chain exceeds its deadline.
+    fn first_late(&self) -> Option<usize>
+        ensures { MatchOption result (NoneLate self.now) (FirstLate self.now) }
+    {
+        for k in 0..usize::from(self.n) {
+            if u64::from(self.deadlines[k]) < self.lens[k] {
+                return Some(k);
+            }
+        }
+        None
+    }
+
+    // The sharp verdict on the table, before a chain is looked for. A chain that is too long is looked for over all tasks first.
+    pub fn judged(&self) -> Decided
+        ensures { (t : Table) → GoodTable t → Gathered t self.now → result ≡ decided (sharp_on t) }
+    {
+        if let Some(k) = self.first_late() {
+            return Decided {
+                number: 22,
+                task: k as u8,
+                margin: self.margin(k),
+            };
+        }
+        verdict::judge(self.n, 23, |k| self.margin(k))
     }
 }

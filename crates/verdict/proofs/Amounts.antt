@@ -2,12 +2,13 @@
 use mathlib.Core.Path.{◌≡◌, refl, ap}
 use mathlib.Core.Bool.{Bool, true, false}
 use mathlib.Core.List.{List, [], ◌∷◌}
-use Prim.Native.Nat.{ℕ, zero, suc, ◌+◌, ◌*◌, ◌-◌, ◌/◌, ◌≤◌, ◌<◌}
+use Prim.Native.Nat.{ℕ, zero, suc, ◌+◌, ◌*◌, ◌-◌, ◌/◌, ◌%◌, ◌≤◌, ◌<◌, min}
 use native.Mathlib.Omega.{arith}
 use native.Mathlib.Nat.{mul_comm, mul-suc, mul-le-mul, mul-le-mul_left, mul-le-mul_right, div-eq_of_lt, div-le_of_le-mul, le-div_iff_mul-le}
 use native.Mathlib.Decide.{ℕ_discrete, dec_le}
 use lib.Dec.{leb}
 use borrow.Author.Tests.{le-leb, leb-true}
+use Rattle.std.proofs.lemmas.Grind.{div_ceil_times}
 use Rattle.graph.specs.Words.{pick, sum}
 use Rattle.graph.specs.Graph.{acyclic, Chain, alone, joined, sum_along}
 use Rattle.graph.proofs.Facts.{sum_le, sum_at}
@@ -67,6 +68,14 @@ up_within x y n one h = elim (dec_le ((x + (y - 1)) / y) n) [
       let q = (le-div_iff_mul-le {k = y} {x = suc n} {y = x + (y - 1)} (omega arith)).0 (omega arith) in
       absurd (omega (arith, q, mul_comm (suc n) y, mul-suc y n, mul_comm y n))
 ]
+
+-- it is what std's method returns
+pub up_ceil : (x y : ℕ) → 1 ≤ y → x / y + min 1 (x % y) ≡ rounded_up x y
+unfolding rounded_up
+up_ceil x y h =
+    let q : ℕ = x / y + min 1 (x % y) in
+    let p = div_ceil_times x y h in
+    omega (arith, up_within x y q h p.0, (le-div_iff_mul-le {k = y} {x = q} {y = x + (y - 1)} (omega arith)).1 (omega (arith, p.1)))
 
 -- ---- a chain passes no vertex twice, so its sum is within the whole sum
 module _ (v : ℕ) (E : ℕ → ℕ → Bool) (rise : ℕ → ℕ) (up : (u w : ℕ) → u < v → w < v → E u w ≡ true → rise u < rise w) (f : ℕ → ℕ) where

@@ -8,8 +8,8 @@ use native.Mathlib.Nat.{mul-le-mul, div-le_self}
 use native.Mathlib.Numerals.{add-one}
 use native.Mathlib.Decide.{ℕ_discrete, dec_lt}
 use lib.Dec.{ltb}
-use lib.ListN.{length, get_or, set, length-set, replicate, get_or-replicate, length-replicate}
-use lib.Seq.{get_or-set_same, get_or-set_other, ext_get_or}
+use lib.ListN.{length, get_or, set, length-set, take, drop, length-take, length-drop, replicate, get_or-replicate, length-replicate}
+use lib.Seq.{get_or-set_same, get_or-set_other, get_or-take, get_or-drop, ext_get_or}
 use lib.IntN.{ℤ, pos, negsuc, ◌-ℤ◌}
 use lib.Signed.{mag, lt_z}
 use mir.Syntax.{w64}
@@ -26,9 +26,10 @@ use Rattle.chains.proofs.Named.{chain_of_is}
 use Rattle.table.specs.declared.Table.{Table}
 use Rattle.table.specs.Memory.{vertices, D, T, succ, edge_in, cost}
 use Rattle.table.specs.Good.{GoodTable}
-use Rattle.verdict.specs.declared.Measures.{Measures}
+use Rattle.verdict.specs.declared.measuring.Measures.{Measures}
 use Rattle.verdict.specs.Verdicts.{vol, len, rounded_up, due, margin, chain, up_to}
-use Rattle.verdict.specs.Measured.{Holds, OfGood}
+use Rattle.verdict.specs.Ranges.{InRange}
+use Rattle.verdict.specs.Measured.{Holds, due_in, margin_in}
 use Rattle.verdict.proofs.Amounts.{vol_high, len_vol, due_bound}
 
 -- ---- loops: one term more of a sum, and a row of sixteen whose first i numbers are those of f
@@ -68,7 +69,13 @@ filled_row {f} {a} r =
     ext_get_or 0 a (row 16 f) (r.size ∙ sym (length_row 16 f))
     (λ i h. let l : i < 16 = omega (arith, r.size) in r.each i l ∙ sym (row_at 16 f i 0 l))
 
--- sixteen numbers from past the end of a row of 256
+-- task i's sixteen numbers of a row of 256, which are zeros past its end
+pub costs_row : (costs : List ℕ) (i : ℕ) → length costs ≡ 256 → i < 16 → take 16 (drop (16 * i) costs) ≡ row 16 (λ u. get_or costs (16 * i + u) 0)
+costs_row costs i e h =
+    let whole : length (take 16 (drop (16 * i) costs)) ≡ 16 = omega (arith, length-take 16 (drop (16 * i) costs), length-drop (16 * i) costs) in
+    ext_get_or 0 (take 16 (drop (16 * i) costs)) (row 16 (λ u. get_or costs (16 * i + u) 0)) (whole ∙ sym (length_row 16 _))
+    (λ u l. get_or-take 16 (drop (16 * i) costs) u 0 (omega (arith, whole)) ∙ get_or-drop (16 * i) costs u 0 ∙ sym (row_at 16 (λ u. get_or costs (16 * i + u) 0) u 0 (omega (arith, whole))))
+
 pub costs_none : (costs : List ℕ) (i : ℕ) → length costs ≡ 256 → 16 ≤ i → replicate 16 0 ≡ row 16 (λ u. get_or costs (16 * i + u) 0)
 costs_none costs i e h =
     let r = filled_none {f = λ u. get_or costs (16 * i + u) 0} {a = replicate 16 0} refl in
@@ -154,25 +161,35 @@ module _ (t : Table) (good : GoodTable t) (k : ℕ) (b : k < t.n) where
 
   -- the same by a table's measures
   module _ (x : Measures) (h : Holds t x) where
-    pub held_due_ready : (x.n ≤ 16) × (get_or x.deadlines k 0 ≤ 1000000)
-        × ((i : ℕ) → i < x.n → (1 ≤ get_or x.periods i 0) × (get_or x.periods i 0 ≤ 1000000) × (get_or x.vols i 0 ≤ 16000000))
-    held_due_ready = rw (h.n_is, h.D_is k b) (due_ready x.periods x.vols h.T_is h.vol_is)
+    pub held_due : due_in x k ≡ due t k
+    unfolding due_in
+    held_due = due_found x.periods x.vols h.T_is h.vol_is (due_in x k) (rw (h.n_is, h.D_is k b))
 
-    pub held_due : (y : ℕ) → y ≡ sum x.n (λ i. rounded_up (get_or x.deadlines k 0) (get_or x.periods i 0) * get_or x.vols i 0) → y ≡ due t k
-    held_due y e = due_found x.periods x.vols h.T_is h.vol_is y (rw (h.n_is, h.D_is k b) at e)
-
-    pub held_margin : (y : ℕ) → y ≡ due t k → (z : ℤ)
-        → z ≡ pos (x.m * get_or x.deadlines k 0) -ℤ pos ((x.m - 1) * min (get_or x.lens k 0) (2 ^ 53) + min y (2 ^ 53)) → z ≡ margin t k
-    held_margin y d z e =
+    pub held_margin : margin_in x k ≡ margin t k
+    unfolding margin_in margin
+    held_margin =
+        let chain : ℕ = min (get_or x.lens k 0) (2 ^ 53) in
+        let work : ℕ = min (due_in x k) (2 ^ 53) in
         let l = h.len_is k b in
-        margin_found (get_or x.lens k 0) y l d z
-        (rw (h.m_is, h.D_is k b) at e ∙ ap₂ (λ (x y : ℕ). pos (t.m * D t k) -ℤ pos ((t.m - 1) * x + y)) (small (omega (arith, len_vol t good k b, vol_high t good k b))) (small (omega (arith, due_bound t good k b))))
+        ap₂ (λ (m d : ℕ). pos (m * d) -ℤ pos ((m - 1) * chain + work)) h.m_is (h.D_is k b)
+        ∙ ap₂ (λ (x y : ℕ). pos (t.m * D t k) -ℤ pos ((t.m - 1) * x + y))
+        (small (omega (arith, len_vol t good k b, vol_high t good k b)) ∙ l)
+        (small (omega (arith, held_due, due_bound t good k b)) ∙ held_due)
       where
         small : {x : ℕ} → x ≤ 2 ^ 53 → min x (2 ^ 53) ≡ x
         small h = omega arith
 
-pub few_held : (x : Measures) → OfGood x → x.n ≤ 16
-few_held x (t, g, h) = omega (arith, g.n_high, h.n_is)
+-- a good table's measures are within their ranges
+pub in_range : (t : Table) → GoodTable t → (deadlines periods vols : List ℕ)
+    → ((i : ℕ) → i < t.n → get_or deadlines i 0 ≡ D t i) → ((i : ℕ) → i < t.n → get_or periods i 0 ≡ T t i) → ((i : ℕ) → i < t.n → get_or vols i 0 ≡ vol t i)
+    → InRange t.n deadlines periods vols
+in_range t good deadlines periods vols d p v = (
+  good.n_low,
+  good.n_high,
+  λ i b.
+      let g = good.each i b in
+      (omega (arith, g.D_high, d i b), omega (arith, g.T_low, p i b), omega (arith, g.T_high, p i b), omega (arith, vol_high t good i b, v i b)),
+)
 
 -- ---- what the code computes stays small, whatever the numbers are
 pub quotient_fits : (x y : ℕ) → x < 2 ^ 32 → Fits w64 (x / y)

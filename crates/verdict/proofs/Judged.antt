@@ -1,4 +1,4 @@
--- The code's walk over a good table's margins, task by task, and the verdict that it comes to; what it answers of a file.
+-- The verdict that the code's search over a good table's margins comes to; what it answers of a file.
 use mathlib.Core.Path.{◌≡◌, refl, sym, ap, ap₂, ◌∙◌}
 use mathlib.Core.Bool.{true}
 use mathlib.Core.List.{List}
@@ -6,9 +6,9 @@ use Prim.Native.Nat.{ℕ, ◌+◌, ◌*◌, ◌≤◌, ◌<◌}
 use native.Mathlib.Omega.{arith}
 use lib.ListN.{length, get_or, replicate}
 use lib.IntN.{ℤ, pos}
-use lib.Signed.{lt_z}
+use lib.Signed.{lt_z, le_z}
 use borrow.Author.Tests.{lt-ltb, le-ltb}
-use Rattle.graph.specs.Words.{row}
+use Rattle.graph.specs.Words.{all, row, lowest}
 use Rattle.table.specs.declared.Table.{Table}
 use Rattle.table.specs.declared.Outcome.{Outcome}
 use Rattle.table.specs.declared.Outcome.TheVariants.{Read, Short, Mark, Range, Ticks, Order, Edge, Cycle, Extra}
@@ -22,15 +22,14 @@ use Rattle.chains.specs.declared.ChainFound.{ChainFound}
 use Rattle.chains.specs.Chains.{answered, longest_chain}
 use Rattle.verdict.specs.declared.Verdict.{Verdict}
 use Rattle.verdict.specs.declared.Decided.{Decided}
-use Rattle.verdict.specs.declared.Measures.{Measures}
+use Rattle.verdict.specs.declared.measuring.Measures.{Measures}
 use Rattle.verdict.specs.declared.Figures.{Figures}
 use Rattle.verdict.specs.declared.Findings.{Findings}
 use Rattle.verdict.specs.Verdicts.{vol, len, due, margin, chain, in_places, naming, verdict_on, unread, verdict_read, verdict, figures_on, no_figures, figures_read, figures, up_to, findings_on, no_findings, findings_read, findings}
+use Rattle.verdict.specs.Judging.{judged_by}
 use Rattle.verdict.specs.Measured.{Holds, decided, with_chain}
-use Rattle.verdict.proofs.Margins.{high_end, margin_range}
-use Rattle.verdict.proofs.Orders.{Lowest}
-use Rattle.verdict.proofs.Walk.{negative, SoFar, below_top, all_walked}
-use Rattle.verdict.proofs.Says.{some_negative, none_negative, named_below, names}
+use Rattle.verdict.proofs.Orders.{lowest_or_map}
+use Rattle.verdict.proofs.Says.{named_below, names}
 use Rattle.verdict.proofs.Figured.{chain_found}
 
 -- ---- an answer that names a task of a good table and hands on its chain; d is that answer without the chain
@@ -46,25 +45,13 @@ chain_named t good v named b d e own o =
     ∙ ap (λ (x : Verdict). record { number = x.number; place = 0; task = v.task; margin = x.margin; count = length (chain t v.task); chain = in_places (chain t v.task) }) named
     ∙ sym named
 
+-- the search over a table's margins finds what the definition names
+pub decided_by : (t : Table) → judged_by t.n 20 (margin t) ≡ decided (verdict_on t)
+unfolding judged_by decided verdict_on naming
+decided_by t =
+    sym (lowest_or_map decided t.n (λ k. lt_z (margin t k) (pos 0)) (naming 20 t) (naming 0 t (lowest 255 t.n (λ k. all t.n (λ i. le_z (margin t k) (margin t i))))))
+
 module _ (t : Table) (good : GoodTable t) where
-  -- no margin is as large as what the walk starts with
-  pub above : (k : ℕ) → k < t.n → lt_z (margin t k) (pos 8000001) ≡ true
-  unfolding high_end
-  above k b = below_top (margin t k) (margin_range t good k b).high
-
-  -- "20: some margin is negative; the answer is the lowest such task and its margin"; y is the margin of task k
-  pub met_negative : (k : ℕ) → Lowest t.n (negative (margin t)) k → (y : ℤ) → y ≡ margin t k
-      → (record { number = 20; task = k; margin = y }) ≡ decided (verdict_on t)
-  unfolding naming decided
-  met_negative k low y its = ap (λ (x : ℤ). record { number = 20; task = k; margin = x }) its ∙ sym (ap decided (some_negative t good k low))
-
-  -- "0: accepted; the answer is the smallest margin and the lowest task that has it"
-  pub all_passed : (task : ℕ) (z : ℤ) → SoFar (margin t) (pos 8000001) t.n task z → (record { number = 0; task = task; margin = z }) ≡ decided (verdict_on t)
-  unfolding naming decided
-  all_passed task z s =
-      let r = all_walked (margin t) (pos 8000001) t.n above good.n_low task z s in
-      ap (λ (y : ℤ). record { number = 0; task = task; margin = y }) r.1 ∙ sym (ap decided (none_negative t good r.0 task r.2))
-
   -- ---- the task is known, and its chain is looked for
   module _ (d : Decided) (e : d ≡ decided (verdict_on t)) where
     pub task_there : d.task < t.n

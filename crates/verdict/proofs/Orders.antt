@@ -52,6 +52,12 @@ le_trans (negsuc a) (pos b) (negsuc c) h k = absurd (clash k refl)
 le_trans (negsuc a) (negsuc b) (pos c) h k = refl
 le_trans (negsuc a) (negsuc b) (negsuc c) h k = le-leb c a (omega (arith, leb-true b a h, leb-true c b k))
 
+pub le_antisym : (a b : ℤ) → le_z a b ≡ true → le_z b a ≡ true → a ≡ b
+le_antisym (pos a) (pos b) h k = ap pos (omega (arith, leb-true a b h, leb-true b a k))
+le_antisym (pos a) (negsuc b) h k = absurd (clash h refl)
+le_antisym (negsuc a) (pos b) h k = absurd (clash k refl)
+le_antisym (negsuc a) (negsuc b) h k = ap negsuc (omega (arith, leb-true b a h, leb-true a b k))
+
 -- ---- of one signed number or more, one is the smallest
 pub smallest : (n : ℕ) (z : ℕ → ℤ) → (k : ℕ) × (k < suc n) × ((i : ℕ) → i < suc n → le_z (z k) (z i) ≡ true)
 smallest zero z = (0, omega arith, λ i b. let e : i ≡ 0 = omega arith in rw e (le_refl (z 0)))
@@ -91,3 +97,13 @@ module _ {ℓ} {X : Type ℓ} (n : ℕ) (p : ℕ → Bool) (f : ℕ → X) (othe
       go : (l : List ℕ) → those_below n p ≡ l → first_or l f other ≡ f y
       go [] e = absurd (clash (sym (ap (is_in y) e) ∙ below_all n p y h.0 h.1) refl)
       go (k ∷ ks) e = ap f (sym (ap (λ (l : List ℕ). get_or l 0 0) e) ∙ lowest_is 0 n p y h.0 h.1 h.2)
+
+-- a function of what is found
+pub lowest_or_map {ℓ κ} : {X : Type ℓ} {Y : Type κ} (g : X → Y) (n : ℕ) (p : ℕ → Bool) (f : ℕ → X) (other : X)
+    → g (lowest_or n p f other) ≡ lowest_or n p (λ k. g (f k)) (g other)
+unfolding lowest_or first_or
+lowest_or_map g n p f other = go (those_below n p)
+  where
+    go : (l : List ℕ) → g (first_or l f other) ≡ first_or l (λ k. g (f k)) (g other)
+    go [] = refl
+    go (k ∷ ks) = refl

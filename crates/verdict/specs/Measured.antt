@@ -1,13 +1,13 @@
 -- What the code works on, for the contracts of its parts: the measures of a table's tasks, a row of sixteen for each.
-use Rattle.std.specs.Prelude.{◌≡◌, List, ℕ, ◌<◌, length, get_or}
+use Rattle.std.specs.Prelude.{◌≡◌, List, ℕ, ◌+◌, ◌*◌, ◌-◌, ◌^◌, ◌<◌, min, length, get_or, ℤ, pos, ◌-ℤ◌}
+use Rattle.graph.specs.Words.{sum}
 use Rattle.chains.specs.Chains.{chain_of}
 use Rattle.table.specs.declared.Table.{Table}
 use Rattle.table.specs.Memory.{D, T}
-use Rattle.table.specs.Good.{GoodTable}
-use Rattle.verdict.specs.declared.Measures.{Measures}
+use Rattle.verdict.specs.declared.measuring.Measures.{Measures}
 use Rattle.verdict.specs.declared.Decided.{Decided}
 use Rattle.verdict.specs.declared.Verdict.{Verdict}
-use Rattle.verdict.specs.Verdicts.{vol, len, in_places, up_to}
+use Rattle.verdict.specs.Verdicts.{vol, len, rounded_up, in_places, up_to}
 
 pub record Holds (t : Table) (x : Measures) : Type 0 where
   pub m_is : x.m ≡ t.m
@@ -21,9 +21,13 @@ pub record Holds (t : Table) (x : Measures) : Type 0 where
   pub vols_are : x.vols ≡ up_to t.n (vol t)
   pub lens_are : x.lens ≡ up_to t.n (len t)
 
--- measures of some good table
-abbrev pub OfGood : Measures → Type 0
-OfGood x = (t : Table) × GoodTable t × Holds t x
+-- what is due for task k by the measures, and its margin
+unfoldable pub due_in : Measures → ℕ → ℕ
+due_in x k = sum x.n (λ i. rounded_up (get_or x.deadlines k 0) (get_or x.periods i 0) * get_or x.vols i 0)
+
+unfoldable pub margin_in : Measures → ℕ → ℤ
+margin_in x k =
+    pos (x.m * get_or x.deadlines k 0) -ℤ pos ((x.m - 1) * min (get_or x.lens k 0) (2 ^ 53) + min (due_in x k) (2 ^ 53))
 
 -- a verdict on a table without its chain, which is looked for when the task is known
 unfoldable pub decided : Verdict → Decided

@@ -2,47 +2,11 @@
 ghost use Rattle.std.specs.Prelude.{◌≡◌};
 ghost use Rattle.table.specs.Good.{GoodTable};
 ghost use Rattle.verdict.specs.Verdicts.{verdict_on, unread, verdict, no_figures, figures};
-ghost use Rattle.verdict.specs.Measured.{Holds, OfGood, decided, with_chain};
+ghost use Rattle.verdict.specs.Measured.{decided, with_chain};
 
-use crate::{Decided, Figures, Measures, Verdict, figuring};
+use crate::measuring::Measures;
+use crate::{Decided, Figures, Verdict, figuring};
 use table::{Outcome, Table};
-
-// The margins of a good table's tasks in turn, by its measures: the first negative one, or the first that is the smallest.
-pub(crate) fn judged(x: Measures) -> Decided
-    requires { OfGood x }
-    ensures { (t : Table) → GoodTable t → Holds t x → result ≡ decided (verdict_on t) }
-{
-    let periods = x.periods;
-    let vols = x.vols;
-    let n = x.n as usize;
-    let mut task: u8 = 255;
-    let mut best: i64 = 8_000_001;
-    let mut k: usize = 0;
-    while k < n {
-        let d = x.deadlines[k];
-        let len = x.lens[k];
-        let due = figuring::due_of(n, d, periods, vols);
-        let z = figuring::margin_from(x.m, d, len, due);
-        if z < 0 {
-            let first = k as u8;
-            return Decided {
-                number: 20,
-                task: first,
-                margin: z,
-            };
-        }
-        if z < best {
-            best = z;
-            task = k as u8;
-        }
-        k += 1;
-    }
-    Decided {
-        number: 0,
-        task: task,
-        margin: best,
-    }
-}
 
 // A verdict that is decided, with the longest chain of its task, whose successors and costs are given.
 pub fn with_chain(d: Decided, succ: [u16; 16], own: [u32; 16]) -> Verdict
@@ -56,45 +20,39 @@ pub fn with_chain(d: Decided, succ: [u16; 16], own: [u32; 16]) -> Verdict
         task: d.task,
         margin: d.margin,
         count: c.count,
-        chain: chain,
+        chain,
     }
 }
 
 // The verdict on a good table when its task is known: that task's chain is looked for, and no other's.
-pub(crate) fn chained(t: Table, d: Decided) -> Verdict
-    requires { GoodTable t × (d ≡ decided (verdict_on t)) }
-    ensures { result ≡ verdict_on t }
+pub(crate) fn chained(t: &Table, d: Decided) -> Verdict
+    requires { GoodTable t.now × (d ≡ decided (verdict_on t.now)) }
+    ensures { result ≡ verdict_on t.now }
 {
-    let k = d.task as usize;
-    let x = t.tasks[k];
-    let succ = x.succ;
+    let k = usize::from(d.task);
     let own = figuring::own_costs(&t.costs, k);
-    with_chain(d, succ, own)
+    with_chain(d, t.tasks[k].succ, own)
 }
 
 // The verdict on a good table.
-fn verdict_on(t: Table) -> Verdict
-    requires { GoodTable t }
-    ensures { result ≡ verdict_on t }
+fn verdict_on(t: &Table) -> Verdict
+    requires { GoodTable t.now }
+    ensures { result ≡ verdict_on t.now }
 {
-    let x = figuring::measures(t);
-    let d = judged(x);
-    chained(t, d)
+    chained(t, Measures::of(t).judged())
 }
 
 // What a file that reading refuses gets.
 pub fn unread(o: Outcome) -> Verdict
     ensures { result ≡ unread o }
 {
-    let number = table::number(o);
-    let place = table::place(o);
     Verdict {
-        number: number,
-        place: place,
+        number: table::number(o),
+        place: table::place(o),
         task: 255,
         margin: 0,
         count: 0,
-        chain: [255u8; 16],
+        chain: [255; 16],
     }
 }
 
@@ -107,10 +65,10 @@ pub fn verdict_of(bytes: &[u8]) -> Verdict
     let Outcome::Read = o else {
         return unread(o);
     };
-    verdict_on(l.table)
+    verdict_on(&l.table)
 }
 
-// None.
+// None: zeros beside the flag, as the definition of the same name has them.
 fn no_figures() -> Figures
     ensures { result ≡ no_figures }
 {
@@ -132,21 +90,18 @@ pub fn figures_of(bytes: &[u8], task: u8) -> Figures
     let Outcome::Read = o else {
         return no_figures();
     };
-    let x = figuring::measures(l.table);
+    let x = Measures::of(&l.table);
     if x.n <= task {
         return no_figures();
     }
-    let k = task as usize;
-    let d = x.deadlines[k];
-    let vol = x.vols[k];
+    let k = usize::from(task);
     let len = x.lens[k];
-    let due = figuring::due_of(x.n as usize, d, x.periods, x.vols);
-    let margin = figuring::margin_from(x.m, d, len, due);
+    let due = x.due(k);
     Figures {
         found: true,
-        vol: vol,
-        len: len,
-        due: due,
-        margin: margin,
+        vol: x.vols[k],
+        len,
+        due,
+        margin: figuring::margin_from(x.m, x.deadlines[k], len, due),
     }
 }

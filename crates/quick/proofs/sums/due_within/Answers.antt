@@ -1,51 +1,55 @@
-use mathlib.Core.Path.{◌≡◌, refl, sym, ap₂, ◌∙◌}
-use Prim.Native.Nat.{ℕ, ◌+◌, ◌*◌, ◌≤◌}
-use native.Mathlib.Omega.{arith}
+use Rattle.std.proofs.Common.{◌≡◌, ℕ, ◌+◌, ◌*◌, ◌≤◌, ap₂, refl, sym, ◌∙◌, length, arith}
 use native.Mathlib.Nat.{mul-le-mul}
-use lib.ListN.{get_or}
-use borrow.Author.Rules.{rules}
 use Rattle.graph.specs.Words.{sum}
 use Rattle.verdict.specs.Verdicts.{rounded_up}
-use Rattle.verdict.proofs.Amounts.{sum_part}
+use Rattle.verdict.proofs.Amounts.{sum_part, up_ceil, up_most}
 use Rattle.verdict.proofs.Figured.{sum_next, sum_done}
+use Rattle.quick.specs.Loads.{load, owed}
 use Rattle.quick.proofs.sums.due_within.Goals as goal
 
-pub loop-i-init : goal.loop-i-init
-unfolding sum
-loop-i-init c = (search rules, refl, search rules)
-
-pub rounded_up-requires : goal.rounded_up-requires
-rounded_up-requires c = let h = c.requires.2 c.loop-i.i (omega arith) in (search rules, h.0, h.1)
+pub loop-load-init : goal.loop-load-init
+unfolding owed sum
+loop-load-init c = (refl, omega arith)
 
 pub overflow_mul-due : goal.overflow_mul-due
 overflow_mul-due c =
-    let part : c.rounded_up.result * get_or c.args.vols c.loop-i.i 0 ≤ 1000000 * 16000000 =
-    mul-le-mul c.rounded_up.ensures.1 (c.requires.2 c.loop-i.i (omega arith)).2 in
+    let l = c.args.loads.now in
+    let i = c.loop-load.load-index in
+    let r = c.requires.2 i (omega arith) in
+    let jobs = c.from.ensures ∙ c.div_ceil.ensures ∙ up_ceil c.args.d (load l i).period r.0 in
+    let few : c.from.result ≤ 1000000 = omega (arith, jobs, up_most c.args.d (load l i).period r.0) in
+    let part : c.from.result * (load l i).vol ≤ 1000000 * 16000000 = mul-le-mul few r.1 in
     omega (arith, part)
 
 pub overflow_add-due : goal.overflow_add-due
 overflow_add-due c =
-    let part : c.rounded_up.result * get_or c.args.vols c.loop-i.i 0 ≤ 1000000 * 16000000 =
-    mul-le-mul c.rounded_up.ensures.1 (c.requires.2 c.loop-i.i (omega arith)).2 in
-    omega (arith, part)
+    let l = c.args.loads.now in
+    let i = c.loop-load.load-index in
+    let r = c.requires.2 i (omega arith) in
+    let jobs = c.from.ensures ∙ c.div_ceil.ensures ∙ up_ceil c.args.d (load l i).period r.0 in
+    let few : c.from.result ≤ 1000000 = omega (arith, jobs, up_most c.args.d (load l i).period r.0) in
+    let part : c.from.result * (load l i).vol ≤ 1000000 * 16000000 = mul-le-mul few r.1 in
+    omega (arith, part, c.loop-load.invariant.1)
 
-pub returns-then-most-due : goal.returns-then-most-due
-returns-then-most-due c =
+pub returns-then-most-due-clause-over : goal.returns-then-most-due-clause-over
+unfolding owed
+returns-then-most-due-clause-over c = λ h.
+    let l = c.args.loads.now in
+    let i = c.loop-load.load-index in
+    let jobs = c.from.ensures ∙ c.div_ceil.ensures ∙ up_ceil c.args.d (load l i).period (c.requires.2 i (omega arith)).0 in
+    let f : ℕ → ℕ = λ x. rounded_up c.args.d (load l x).period * (load l x).vol in
     -- one task more
-    let grown : c.loop-i.due + c.rounded_up.result * get_or c.args.vols c.loop-i.i 0
-    ≡ sum (c.loop-i.i + 1) (λ x. rounded_up c.args.d (get_or c.args.times x 0) * get_or c.args.vols x 0) =
-    ap₂ (λ (x y : ℕ). x + y * get_or c.args.vols c.loop-i.i 0) c.loop-i.invariant.1 c.rounded_up.ensures.0 ∙ sym (sum_next _ _) in
-    let f : ℕ → ℕ = λ x. rounded_up c.args.d (get_or c.args.times x 0) * get_or c.args.vols x 0 in
-    let more = sum_part (c.loop-i.i + 1) c.args.n f (omega arith) in
-    (λ h. absurd (omega arith), λ h. omega (arith, grown, more))
+    let grown : c.loop-load.due + c.from.result * (load l i).vol ≡ sum (i + 1) f = ap₂ (λ (x y : ℕ). x + y * (load l i).vol) c.loop-load.invariant.0 jobs ∙ sym (sum_next i f) in
+    omega (arith, h, grown, sum_part (i + 1) (length l) f (omega arith))
 
-pub loop-i-preserved : goal.loop-i-preserved
-loop-i-preserved c =
-    -- one task more
-    let grown : c.loop-i.due + c.rounded_up.result * get_or c.args.vols c.loop-i.i 0
-    ≡ sum (c.loop-i.i + 1) (λ x. rounded_up c.args.d (get_or c.args.times x 0) * get_or c.args.vols x 0) =
-    ap₂ (λ (x y : ℕ). x + y * get_or c.args.vols c.loop-i.i 0) c.loop-i.invariant.1 c.rounded_up.ensures.0 ∙ sym (sum_next _ _) in
-    (search rules, grown, search rules)
+pub loop-load-preserved : goal.loop-load-preserved
+unfolding owed
+loop-load-preserved c =
+    let l = c.args.loads.now in
+    let i = c.loop-load.load-index in
+    let jobs = c.from.ensures ∙ c.div_ceil.ensures ∙ up_ceil c.args.d (load l i).period (c.requires.2 i (omega arith)).0 in
+    (ap₂ (λ (x y : ℕ). x + y * (load l i).vol) c.loop-load.invariant.0 jobs ∙ sym (sum_next i _), c.if-most-due.false)
 
 pub returns : goal.returns
-returns c = (λ h. sum_done _ _ _ _ (omega arith) c.loop-i.invariant.1, λ h. absurd (omega (arith, c.loop-i.invariant.2)))
+unfolding owed
+returns c = record { within = λ h. sum_done _ _ _ _ (omega arith) c.loop-load.invariant.0; over = λ h. absurd (omega (arith, c.loop-load.invariant.1)) }

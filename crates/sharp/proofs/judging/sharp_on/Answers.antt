@@ -1,20 +1,5 @@
-use mathlib.Core.Path.{◌∙◌}
-use native.Mathlib.Omega.{arith}
-use Rattle.table.specs.declared.Table.{Table}
-use Rattle.table.specs.Memory.{no_task, task, succ}
-use Rattle.sharp.specs.Gathered.{table_of}
-use Rattle.sharp.proofs.Judged.{task_there, with_chain_lem}
 use Rattle.sharp.proofs.judging.sharp_on.Goals as goal
 
-pub bounds-tasks-k : goal.bounds-tasks-k
-bounds-tasks-k c =
-    let d = c.judged-d in
-    let t : Table = table_of c.args.m c.args.n c.args.tasks c.args.costs.now in
-    omega (arith, task_there t c.requires d.result (d.ensures t c.requires c.gathered-x.ensures), c.requires.n_high)
-
-pub returns : goal.returns
-unfolding succ task no_task
-returns c =
-    let t : Table = table_of c.args.m c.args.n c.args.tasks c.args.costs.now in
-    let d = c.judged-d in
-    c.with_chain.ensures ∙ with_chain_lem t c.requires d.result (d.ensures t c.requires c.gathered-x.ensures) _ c.own_costs-own.ensures
+pub chained-requires : goal.chained-requires
+chained-requires c =
+    (c.requires, c.judged.ensures c.args.t.now c.requires c.of-x.ensures)

@@ -1,17 +1,13 @@
-use mathlib.Core.Path.{◌≡◌, refl}
-use native.Mathlib.Omega.{arith}
-use Rattle.verdict.proofs.Figured.{filled_none, filled_next, filled_row, costs_none}
-use borrow.Author.Rules.{rules}
+use Rattle.std.proofs.Common.{◌≡◌, ℕ, ◌+◌, ◌*◌, ◌-◌, ap, ◌∙◌, take, drop, arith, rules}
+use Rattle.verdict.proofs.Figured.{costs_row, costs_none}
 use Rattle.verdict.proofs.figuring.own_costs.Goals as goal
 
-pub returns-then-size-i : goal.returns-then-size-i
-returns-then-size-i c = costs_none c.args.costs.now _ (search rules) (omega arith)
+pub returns-then-i-lt16 : goal.returns-then-i-lt16
+returns-then-i-lt16 c =
+    let costs = c.args.costs.now in
+    let i = c.args.i in
+    let e : 16 * i + 16 - 16 * i ≡ 16 = omega arith in
+    c.copy_from_slice.ensures.after ∙ ap (λ (n : ℕ). take n (drop (16 * i) costs)) e ∙ costs_row costs i c.told-costs c.if-i-lt16.true
 
-pub loop-u-init : goal.loop-u-init
-loop-u-init c = (search rules, omega arith, filled_none refl)
-
-pub loop-u-preserved : goal.loop-u-preserved
-loop-u-preserved c = (search rules, omega arith, filled_next _ (omega arith) refl c.loop-u.invariant.2)
-
-pub returns : goal.returns
-returns c = let e : c.loop-u.u ≡ 16 = omega arith in filled_row (rw e at c.loop-u.invariant.2)
+pub returns-else-i-lt16 : goal.returns-else-i-lt16
+returns-else-i-lt16 c = costs_none c.args.costs.now _ (search rules) (omega arith)

@@ -1,17 +1,16 @@
-use mathlib.Core.Path.{refl, sym, ap₂, ◌∙◌}
-use Prim.Native.Nat.{ℕ, ◌+◌}
-use native.Mathlib.Omega.{arith}
-use borrow.Author.Rules.{rules}
+use Rattle.std.proofs.Common.{ℕ, ◌+◌, refl, sym, ap₂, ◌∙◌, arith}
 use Rattle.graph.specs.Words.{sum}
 use Rattle.verdict.proofs.Figured.{sum_next, sum_done}
 use Rattle.verdict.proofs.figuring.total_of.Goals as goal
 
-pub loop-u-init : goal.loop-u-init
+pub loop-cost-init : goal.loop-cost-init
 unfolding sum
-loop-u-init c = (search rules, refl, search rules)
+loop-cost-init c = (refl, omega arith)
 
-pub loop-u-preserved : goal.loop-u-preserved
-loop-u-preserved c = (search rules, ap₂ (λ (x y : ℕ). x + y) c.loop-u.invariant.1 c.wide-total.ensures.0 ∙ sym (sum_next _ _), search rules)
+pub loop-cost-preserved : goal.loop-cost-preserved
+loop-cost-preserved c =
+    let l = c.loop-cost in
+    (ap₂ (λ (x y : ℕ). x + y) l.invariant.0 c.from-total.ensures ∙ sym (sum_next _ _), omega (arith, l.invariant.1, c.from-total.ensures, c.loop-cost-test.element_fits))
 
 pub returns : goal.returns
-returns c = sum_done _ _ _ _ (omega arith) c.loop-u.invariant.1
+returns c = sum_done _ _ _ _ (omega arith) c.loop-cost.invariant.0

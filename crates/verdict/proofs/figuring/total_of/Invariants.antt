@@ -1,12 +1,7 @@
 -- The loop's invariant: the sum of the costs so far, and a bound on it.
-use mathlib.Core.Path.{◌≡◌}
-use Prim.Native.Nat.{◌*◌, ◌-◌, ◌≤◌}
-use lib.ListN.{get_or}
+use Rattle.std.proofs.Common.{◌≡◌, ◌*◌, ◌≤◌, get_or}
 use Rattle.graph.specs.Words.{sum}
 use Rattle.verdict.proofs.figuring.total_of.Given as goal
 
-abbrev pub invariant-loop-u : goal.invariant-loop-u
-invariant-loop-u l = (l.u ≤ 16) × (l.total ≡ sum l.u (λ x. get_or l.own x 0)) × (l.total ≤ l.u * 4294967296)
-
-abbrev pub decreases-loop-u : goal.decreases-loop-u
-decreases-loop-u l = 16 - l.u
+abbrev pub invariant-loop-cost : goal.invariant-loop-cost
+invariant-loop-cost l = (l.total ≡ sum l.cost-index (λ u. get_or l.cost-items u 0)) × (l.total ≤ l.cost-index * 4294967296)

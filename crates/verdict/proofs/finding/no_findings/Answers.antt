@@ -2,4 +2,4 @@ use Rattle.verdict.proofs.Judged.{none_found}
 use Rattle.verdict.proofs.finding.no_findings.Goals as goal
 
 pub returns : goal.returns
-returns c = none_found c.args.o c.unread-verdict.result c.unread-verdict.ensures
+returns c = none_found c.args.o c.unread.result c.unread.ensures

@@ -8,4 +8,4 @@ use Rattle.verdict.proofs.judging.unread.Goals as goal
 
 pub returns : goal.returns
 unfolding unread in_places row row_from
-returns c = ap₂ (λ (n p : ℕ). record { number = n; place = p; task = 255; margin = pos 0; count = 0; chain = in_places [] }) c.number-number.ensures c.place-place.ensures
+returns c = ap₂ (λ (n p : ℕ). record { number = n; place = p; task = 255; margin = pos 0; count = 0; chain = in_places [] }) c.number.ensures c.place.ensures

@@ -1,0 +1,15 @@
+use Rattle.std.proofs.Common.{◌≡◌, ℕ, ap, ◌∙◌, arith, rules}
+use Rattle.verdict.specs.Verdicts.{up_to}
+use Rattle.sharp.specs.Sharp.{sharp_due}
+use Rattle.sharp.specs.Gathered.{due_in}
+use Rattle.sharp.proofs.Judged.{held_due}
+use Rattle.sharp.proofs.gathering.Gathering.dues.Goals as goal
+
+pub returns : goal.returns
+returns c = λ t g h.
+    let x = c.args.self.now in
+    c.figures_up_to.ensures (sharp_due t)
+    (λ k r b p.
+    let e : r ≡ due_in x k = search rules in
+    e ∙ held_due t g x h k (omega (arith, h.n_is)))
+    ∙ ap (λ (n : ℕ). up_to n (sharp_due t)) h.n_is

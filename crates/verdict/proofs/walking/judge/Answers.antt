@@ -1,0 +1,37 @@
+use Rattle.std.proofs.Common.{◌≡◌, ℕ, ◌∙◌, subst, arith, to_z, of_z}
+use mir.Facts.{to_z-of_z}
+use mir.Syntax.{w64}
+use mir.Val.{SFits}
+use Rattle.verdict.proofs.Walk.{none_yet, at_top, kept, taken, met_negative, all_passed}
+use Rattle.verdict.proofs.walking.judge.Goals as goal
+use Rattle.verdict.proofs.walking.judge.Goals.{then-z-best, else-z-best}
+
+pub loop-k-init : goal.loop-k-init
+loop-k-init g c = λ z h. none_yet z _
+
+pub returns-then-z-lt0 : goal.returns-then-z-lt0
+returns-then-z-lt0 g c = λ z h.
+    let r = c.margin-z in
+    let f : SFits w64 r.result = record { sfits = r.type_inv } in
+    let k = c.loop-k.k in
+    let its = to_z-of_z f ∙ h k r.result (omega arith) (subst (λ (x : ℕ). g.F.Fn.post c.args.margin (x, tt) r.result) c.from.ensures r.ensures) in
+    met_negative z _ c.args.n k _ _ (omega arith) (c.loop-k.invariant z h) _ its c.args.number c.if-z-lt0.true
+
+pub loop-k-preserved : goal.loop-k-preserved
+loop-k-preserved g c = λ z h.
+    let r = c.margin-z in
+    let f : SFits w64 r.result = record { sfits = r.type_inv } in
+    let k = c.loop-k.k in
+    let bits = to_z-of_z f in
+    let its : to_z w64 (of_z w64 r.result) ≡ z k =
+    bits ∙ h k r.result (omega arith) (subst (λ (x : ℕ). g.F.Fn.post c.args.margin (x, tt) r.result) c.from.ensures r.ensures) in
+    elim c.if-z-best.branch [
+      | then-z-best w ↦ rw (w.task-is, w.best-is) (taken z _ c.args.n k _ _ (omega arith) (c.loop-k.invariant z h) _ its c.if-z-lt0.false w.if-z-best.true)
+      | else-z-best w ↦ rw (w.task-is, w.best-is)
+          (kept z _ c.args.n k _ _ (omega arith) (c.loop-k.invariant z h) _ its (rw bits (at_top r.result r.type_inv)) c.if-z-lt0.false w.if-z-best.false)
+    ]
+
+pub returns : goal.returns
+returns g c = λ z h.
+    let e : c.loop-k.k ≡ c.args.n = omega arith in
+    all_passed z _ c.args.n c.args.number c.requires.some _ _ (rw e at (c.loop-k.invariant z h))

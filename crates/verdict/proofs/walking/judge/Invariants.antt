@@ -1,0 +1,8 @@
+-- The loop's invariant: `SoFar`, what the search over the margins has come to.
+use Rattle.std.proofs.Common.{◌≡◌, ℕ, ◌<◌, ℤ, pos}
+use Rattle.verdict.proofs.Walk.{SoFar}
+use Rattle.verdict.proofs.walking.judge.Given as goal
+
+abbrev pub invariant-loop-k : goal.invariant-loop-k
+invariant-loop-k g l =
+    (z : ℕ → ℤ) → ((k : ℕ) (r : ℤ) → k < l.n → goal.F-post g l.margin k r → r ≡ z k) → SoFar z (pos 9223372036854775807) l.k l.task l.best
