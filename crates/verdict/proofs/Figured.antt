@@ -20,8 +20,7 @@ use Rattle.graph.specs.Words.{pick, sum, row}
 use Rattle.graph.specs.Graph.{longest_of}
 use Rattle.graph.proofs.Facts.{sum_same, sum_upto, length_row, row_at, past_end}
 use Rattle.graph.proofs.Narrow.{longest_of_is}
-use Rattle.chains.specs.declared.ChainFound.{ChainFound}
-use Rattle.chains.specs.Chains.{chain_of, answered, longest_chain}
+use Rattle.chains.specs.Chains.{chain_of}
 use Rattle.chains.proofs.Named.{chain_of_is}
 use Rattle.table.specs.declared.Table.{Table}
 use Rattle.table.specs.Memory.{vertices, D, T, succ, edge_in, cost}
@@ -120,11 +119,6 @@ module _ (t : Table) (good : GoodTable t) (k : ℕ) (b : k < t.n) where
       let g = good.each k b in
       chain_of_is (vertices t k) (succ t k) (row 16 (λ u. get_or t.costs (16 * k + u) 0)) (cost t k) g.v_low g.v_high g.no_cycle
       (λ u w e. let q = g.ends u w e in (q.0, q.1)) (λ u h. row_at 16 (λ u. get_or t.costs (16 * k + u) 0) u 0 h) g.unused
-
-  -- so is the answer that carries both
-  pub answer_found : (r : ChainFound) → r ≡ longest_chain (succ t k) (row 16 (λ u. get_or t.costs (16 * k + u) 0)) → r ≡ answered (len t k) (chain t k)
-  unfolding longest_chain
-  answer_found r e = e ∙ ap₂ answered (len_found _ refl) chain_found
 
   -- what is due, over rows that hold the periods and the vols
   pub due_found : (times vols : List ℕ) → ((i : ℕ) → i < t.n → get_or times i 0 ≡ T t i) → ((i : ℕ) → i < t.n → get_or vols i 0 ≡ vol t i)
