@@ -4,7 +4,6 @@ pub mod Keys
 pub mod Rows
 pub mod Numbers
 pub mod Checks
-pub mod Otherwise
 pub mod TestLaws
 pub mod TaskTests
 pub mod UnusedLaws

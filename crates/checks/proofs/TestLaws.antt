@@ -1,5 +1,6 @@
 -- Laws of the tests on a table, a step at a time, for the code's loops.
 use mathlib.Core.Path.{◌≡◌, refl, sym, ap, ◌∙◌}
+use mathlib.Core.Logic.{◌⊎◌, ⊎_elim}
 use mathlib.Core.Bool.{Bool, true, false, ◌&&◌, not, and-false}
 use mathlib.Core.List.{List, [], ◌∷◌, ◌++◌}
 use Prim.Native.Nat.{ℕ, zero, suc, ◌+◌, ◌*◌, ◌-◌, ◌/◌, ◌%◌, ◌^◌, ◌≤◌, ◌<◌}
@@ -15,14 +16,13 @@ use borrow.Author.Tests.{eqb-true, lt-leb, lt-ltb, le-ltb, eq-eqb, ne_eqb}
 use Rattle.graph.specs.Words.{pick, bit, row_from, row, also_if, join_from, in_order}
 use Rattle.graph.proofs.Facts.{length_row, row_at}
 use Rattle.table.specs.declared.Outcome.{Outcome}
-use Rattle.table.specs.declared.Outcome.TheVariants.{Read, Ticks, Edge}
-use Rattle.std.specs.Prelude.{Ok, Err}
-use Rattle.checks.specs.declared.Checked.{Checked}
-use Rattle.table.specs.Reading.{onward, when_read, ranged}
-use Rattle.checks.specs.Checking.{stopped, row_keys, keys_of, edges_of, edge_tested, edges_tested, costs_tested, used_rows}
+use Rattle.table.specs.declared.Outcome.TheVariants.{Ticks, Edge}
+use Rattle.std.specs.Prelude.{Result, Ok, Err}
+use Rattle.table.specs.Reading.{onward, ranged}
+use Rattle.checks.specs.Checking.{row_keys, keys_of, edges_of, edge_tested, edges_tested, costs_tested, used_rows}
 use Rattle.checks.proofs.Keys.{bit_low, bit_up}
 use Rattle.table.proofs.Edges.{slot}
-use Rattle.table.proofs.FieldLaws.{ranged_low, ranged_got}
+use Rattle.table.proofs.FieldLaws.{past, ranged_got}
 
 -- ---- parts joined in order: the next one, and the end
 pub join_next : (f : ℕ → List ℕ) (n u : ℕ) → u < n → join_from (n - u) u f ≡ f u ++ join_from (n - (u + 1)) (u + 1) f
@@ -60,31 +60,35 @@ pub edges_counted : (v : ℕ) (succ : List ℕ) → v ≤ 16 → length (keys_of
 unfolding edges_of
 edges_counted v succ h = rw (le-ltb 16 v h) refl
 
+abbrev pub done : ℕ → Result ℕ Outcome
+done n = Ok n
+
 -- ---- a number held to its range
-module _ (outside : ℕ → Outcome) (lo hi at x : ℕ) where
-  pub under : x < lo → ranged outside lo hi at x ≡ Err (outside at)
-  under h = sym (ranged_low outside lo hi at x h)
-
-  pub over : hi < x → ranged outside lo hi at x ≡ Err (outside at)
-  unfolding ranged
-  over h = rw (lt-leb x hi h, and-false (leb lo x))
-
-  pub within : lo ≤ x → x ≤ hi → ranged outside lo hi at x ≡ Ok x
-  within h k = sym (ranged_got outside lo hi at x h k)
+pub same_range : (outside : ℕ → Outcome) (lo hi at x y : ℕ) → x ≡ y → ranged (λ _. outside at) lo hi 0 x ≡ ranged outside lo hi at y
+unfolding ranged
+same_range outside lo hi at x y q = rw q refl
 
 -- ---- costs
 module _ (costs : List ℕ) (k j p slot : ℕ) (e : k ≡ suc j) where
-  pub costs_over : 1000000 < get_or costs slot 0 → Ticks p ≡ costs_tested costs k p slot
-  unfolding costs_tested
-  costs_over h = rw (e, over Ticks 0 1000000 p (get_or costs slot 0) h)
+  pub costs_over : 1000000 < get_or costs slot 0 → Err (Ticks p) ≡ costs_tested costs k p slot
+  unfolding costs_tested ranged
+  costs_over h = rw (e, lt-leb (get_or costs slot 0) 1000000 h, and-false (leb 0 (get_or costs slot 0)))
 
   pub costs_more : (slot' : ℕ) → slot' ≡ slot + 1 → get_or costs slot 0 ≤ 1000000 → costs_tested costs j (p + 4) slot' ≡ costs_tested costs k p slot
   unfolding costs_tested
-  costs_more slot' q l = rw (e, q, within Ticks 0 1000000 p (get_or costs slot 0) (omega arith) l)
+  costs_more slot' q l = rw (e, q, ← ranged_got Ticks 0 1000000 p (get_or costs slot 0) (omega arith) l)
 
-pub costs_end : (costs : List ℕ) (k p slot : ℕ) → k ≡ 0 → Read ≡ costs_tested costs k p slot
+pub costs_end : (costs : List ℕ) (k p slot : ℕ) → k ≡ 0 → Ok p ≡ costs_tested costs k p slot
 unfolding costs_tested
 costs_end costs k p slot e = rw e
+
+pub costs_next : (costs : List ℕ) (k at slot n : ℕ) → Ok n ≡ costs_tested costs k at slot → n ≡ at + 4 * k
+unfolding costs_tested
+costs_next costs zero at slot n h = let z : n ≡ at = cc in omega arith
+costs_next costs (suc k) at slot n h =
+    let p = past (ranged Ticks 0 1000000 at (get_or costs slot 0)) _ n h in
+    let i = costs_next costs k (at + 4) (slot + 1) n p.2 in
+    omega arith
 
 -- ---- an edge
 module _ (v u w at : ℕ) (b : w < 16) where
@@ -110,13 +114,9 @@ module _ (v k j u w x p : ℕ) (e : k ≡ suc j) (b : w < 16) where
   unfolding row_keys also_if
   row_clear h = rw (e, ne_eqb (x % 2) 1 h)
 
-  pub walk_high : x % 2 ≡ 1 → v ≤ w → record { outcome = Edge p; next = 0 } ≡ edges_tested v (row_keys k u w x) p
-  unfolding edges_tested stopped
-  walk_high h l = rw (row_set h, to_high v u w p b l)
-
-  pub walk_same : x % 2 ≡ 1 → u ≡ w → record { outcome = Edge p; next = 0 } ≡ edges_tested v (row_keys k u w x) p
-  unfolding edges_tested stopped
-  walk_same h l = rw (row_set h, to_same v u w p b l)
+  pub walk_bad : x % 2 ≡ 1 → (v ≤ w) ⊎ ((w < v) × (u ≡ w)) → Err (Edge p) ≡ edges_tested v (row_keys k u w x) p
+  unfolding edges_tested
+  walk_bad h q = let e = ⊎_elim (λ l. to_high v u w p b l) (λ l. to_same v u w p b l.1) q in rw (row_set h, e)
 
   pub walk_pass : x % 2 ≡ 1 → w < v → (u ≡ w → ⊥) → edges_tested v (row_keys j u (w + 1) (x / 2)) (p + 2) ≡ edges_tested v (row_keys k u w x) p
   unfolding edges_tested
@@ -125,33 +125,33 @@ module _ (v k j u w x p : ℕ) (e : k ≡ suc j) (b : w < 16) where
   pub walk_skip : (x % 2 ≡ 1 → ⊥) → edges_tested v (row_keys j u (w + 1) (x / 2)) p ≡ edges_tested v (row_keys k u w x) p
   walk_skip h = rw (row_clear h)
 
-pub walk_end : (v k u w x p : ℕ) → k ≡ 0 → record { outcome = Read; next = p } ≡ edges_tested v (row_keys k u w x) p
+pub walk_end : (v k u w x p : ℕ) → k ≡ 0 → Ok p ≡ edges_tested v (row_keys k u w x) p
 unfolding edges_tested row_keys
 walk_end v k u w x p e = rw e
 
 -- ---- a vertex whose bits are all let through
 pub row_passes : (v k u w x p : ℕ) → w + k ≤ 16 → ((j : ℕ) → j < k → bit x j ≡ true → (w + j < v) × (u ≡ w + j → ⊥))
-    → record { outcome = Read; next = p + 2 * length (row_keys k u w x) } ≡ edges_tested v (row_keys k u w x) p
+    → Ok (p + 2 * length (row_keys k u w x)) ≡ edges_tested v (row_keys k u w x) p
 unfolding edges_tested row_keys
-row_passes v zero u w x p b h = let z : p + 2 * 0 ≡ p = omega arith in ap (λ (n : ℕ). record { outcome = Read; next = n }) z
+row_passes v zero u w x p b h = let z : p + 2 * 0 ≡ p = omega arith in ap done z
 row_passes v (suc k) u w x p b h = go (λ q. row_passes v k u (w + 1) (x / 2) q (omega arith) rest) (ℕ_discrete (x % 2) 1)
   where
     rest : (j : ℕ) → j < k → bit (x / 2) j ≡ true → (w + 1 + j < v) × (u ≡ w + 1 + j → ⊥)
     rest j l e = let q = h (suc j) (omega arith) (bit_up x j ∙ e) in let a = q.0 in (omega arith, λ z. q.1 (omega arith))
 
-    go : ((q : ℕ) → record { outcome = Read; next = q + 2 * length (row_keys k u (w + 1) (x / 2)) } ≡ edges_tested v (row_keys k u (w + 1) (x / 2)) q)
-        → Dec (x % 2 ≡ 1) → record { outcome = Read; next = p + 2 * length (row_keys (suc k) u w x) } ≡ edges_tested v (row_keys (suc k) u w x) p
+    go : ((q : ℕ) → Ok (q + 2 * length (row_keys k u (w + 1) (x / 2))) ≡ edges_tested v (row_keys k u (w + 1) (x / 2)) q)
+        → Dec (x % 2 ≡ 1) → Ok (p + 2 * length (row_keys (suc k) u w x)) ≡ edges_tested v (row_keys (suc k) u w x) p
     go i (yes e) =
         let q = h 0 (omega arith) (bit_low x ∙ eq-eqb (x % 2) 1 e) in
         let l = q.0 in
         let m = ap length (row_set v (suc k) k u w x p refl (omega arith) e) in
         let n : p + 2 * length (row_keys (suc k) u w x) ≡ p + 2 + 2 * length (row_keys k u (w + 1) (x / 2)) = omega arith in
-        ap (λ (n : ℕ). record { outcome = Read; next = n }) n ∙ i (p + 2)
+        ap done n ∙ i (p + 2)
         ∙ walk_pass v (suc k) k u w x p refl (omega arith) e (omega arith) (λ z. q.1 (omega arith))
     go i (no e) =
         let m = ap length (row_clear v (suc k) k u w x p refl (omega arith) e) in
         let n : p + 2 * length (row_keys (suc k) u w x) ≡ p + 2 * length (row_keys k u (w + 1) (x / 2)) = omega arith in
-        ap (λ (n : ℕ). record { outcome = Read; next = n }) n ∙ i p
+        ap done n ∙ i p
         ∙ walk_skip v (suc k) k u w x p refl (omega arith) e
 
 -- no bit from v on, and not bit u
@@ -178,28 +178,24 @@ bits_pass v u x h n j l e = (low, λ z. other z)
         omega arith
 
 -- ---- edges after edges
-pub edges_append : (v : ℕ) (xs ys : List ℕ) (p : ℕ)
-    → edges_tested v (xs ++ ys) p ≡ when_read (edges_tested v xs p).outcome stopped (λ _. edges_tested v ys (edges_tested v xs p).next)
-unfolding edges_tested stopped edge_tested
+pub edges_append : (v : ℕ) (xs ys : List ℕ) (p : ℕ) → edges_tested v (xs ++ ys) p ≡ onward (edges_tested v xs p) Err (λ q. edges_tested v ys q)
+unfolding edges_tested edge_tested
 edges_append v [] ys p = refl
 edges_append v (k ∷ xs) ys p = go (ltb (k % 16) v && not (eqb (k / 16) (k % 16))) (edges_append v xs ys (p + 2))
   where
-    go : (b : Bool) → edges_tested v (xs ++ ys) (p + 2) ≡ when_read (edges_tested v xs (p + 2)).outcome stopped (λ _. edges_tested v ys (edges_tested v xs (p + 2)).next)
-        → onward (pick b (Ok k) (Err (Edge p))) stopped (λ _. edges_tested v (xs ++ ys) (p + 2))
-        ≡ when_read (onward (pick b (Ok k) (Err (Edge p))) stopped (λ _. edges_tested v xs (p + 2))).outcome stopped
-        (λ _. edges_tested v ys (onward (pick b (Ok k) (Err (Edge p))) stopped (λ _. edges_tested v xs (p + 2))).next)
+    go : (b : Bool) → edges_tested v (xs ++ ys) (p + 2) ≡ onward (edges_tested v xs (p + 2)) Err (λ q. edges_tested v ys q)
+        → onward (pick b (Ok k) (Err (Edge p))) Err (λ _. edges_tested v (xs ++ ys) (p + 2))
+        ≡ onward (onward (pick b (Ok k) (Err (Edge p))) Err (λ _. edges_tested v xs (p + 2))) Err (λ q. edges_tested v ys q)
     go true h = h
     go false h = refl
 
-pub edges_next : (v : ℕ) (ks : List ℕ) (p : ℕ) → (edges_tested v ks p).next ≤ p + 2 * length ks
-unfolding edges_tested stopped edge_tested
-edges_next v [] p = omega arith
-edges_next v (k ∷ ks) p = go (ltb (k % 16) v && not (eqb (k / 16) (k % 16))) (edges_next v ks (p + 2))
-  where
-    go : (b : Bool) → (edges_tested v ks (p + 2)).next ≤ p + 2 + 2 * length ks
-        → (onward (pick b (Ok k) (Err (Edge p))) stopped (λ _. edges_tested v ks (p + 2))).next ≤ p + 2 * suc (length ks)
-    go true h = omega arith
-    go false h = omega arith
+pub edges_next : (v : ℕ) (ks : List ℕ) (p n : ℕ) → Ok n ≡ edges_tested v ks p → n ≡ p + 2 * length ks
+unfolding edges_tested
+edges_next v [] p n h = let z : n ≡ p = cc in omega arith
+edges_next v (k ∷ ks) p n h =
+    let a = past (edge_tested v k p) _ n h in
+    let i = edges_next v ks (p + 2) n a.2 in
+    omega arith
 
 -- ---- the rows of the first vertices, one more
 used_long : (v : ℕ) (succ : List ℕ) → length (used_rows v succ) ≡ 16
@@ -232,14 +228,17 @@ used_more succ u h =
     ]
 
 -- ---- the edges vertex by vertex: a vertex refused, one let through, the end
-module _ (v : ℕ) (succ : List ℕ) (u p : ℕ) (r : Checked) (h : u < v) (e : r ≡ edges_tested v (row_keys 16 u 0 (get_or succ u 0)) p) where
-  pub rows_next : edges_tested v (keys_from v succ u) p ≡ when_read r.outcome stopped (λ _. edges_tested v (keys_from v succ (u + 1)) r.next)
-  rows_next = rw (keys_next v succ u h, e) (edges_append v (row_keys 16 u 0 (get_or succ u 0)) (keys_from v succ (u + 1)) p)
+module _ (v : ℕ) (succ : List ℕ) (u p : ℕ) (h : u < v) where
+  rows_next : edges_tested v (keys_from v succ u) p ≡ onward (edges_tested v (row_keys 16 u 0 (get_or succ u 0)) p) Err (λ q. edges_tested v (keys_from v succ (u + 1)) q)
+  rows_next = rw (keys_next v succ u h) (edges_append v (row_keys 16 u 0 (get_or succ u 0)) (keys_from v succ (u + 1)) p)
 
-  pub rows_go : r.outcome ≡ Read → edges_tested v (keys_from v succ (u + 1)) r.next ≡ edges_tested v (keys_from v succ u) p
-  rows_go q = sym (rows_next ∙ ap (λ (o : Outcome). when_read o stopped (λ _. edges_tested v (keys_from v succ (u + 1)) r.next)) q)
+  pub rows_stop : (o : Outcome) → Err o ≡ edges_tested v (row_keys 16 u 0 (get_or succ u 0)) p → Err o ≡ edges_tested v (keys_from v succ u) p
+  rows_stop o e = sym (rows_next ∙ rw (← e) refl)
 
-pub rows_end : (v : ℕ) (succ : List ℕ) (u p : ℕ) → v ≤ u → record { outcome = Read; next = p } ≡ edges_tested v (keys_from v succ u) p
+  pub rows_go : (q : ℕ) → Ok q ≡ edges_tested v (row_keys 16 u 0 (get_or succ u 0)) p → edges_tested v (keys_from v succ (u + 1)) q ≡ edges_tested v (keys_from v succ u) p
+  rows_go q e = sym (rows_next ∙ rw (← e) refl)
+
+pub rows_end : (v : ℕ) (succ : List ℕ) (u p : ℕ) → v ≤ u → Ok p ≡ edges_tested v (keys_from v succ u) p
 unfolding edges_tested
 rows_end v succ u p h = rw (keys_end v succ u h)
 

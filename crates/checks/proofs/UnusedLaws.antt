@@ -4,6 +4,7 @@ use mathlib.Core.Bool.{Bool, true, false, ◌&&◌, ◌||◌, and-false}
 use mathlib.Core.List.{List}
 use Prim.Native.Nat.{ℕ, zero, suc, ◌+◌, ◌*◌, ◌≤◌, ◌<◌}
 use native.Mathlib.Omega.{arith}
+use native.Mathlib.Decide.{ℕ_discrete}
 use lib.ListN.{get_or}
 use lib.Dec.{ltb, eqb}
 use borrow.Author.Tests.{lt-ltb, le-ltb, eq-eqb, ne_eqb}
@@ -53,32 +54,38 @@ module _ (succ costs : List ℕ) (slot from : ℕ) where
   unfolding zero_from
   zero_not_succ u l h n = sym (all_fails 16 _ u h (rw (le-ltb u from l, ne_eqb (get_or succ u 0) 0 n) (and-false (eqb (get_or costs (slot + u) 0) 0))))
 
--- ---- a task
+-- ---- a task: used, or not
 module _ (a : Task) (costs : List ℕ) (slot : ℕ) where
-  pub in_used : (b : Bool) → b ≡ true → zero_from a.succ costs slot a.v ≡ unused_in a costs slot b
+  pub in_used : zero_from a.succ costs slot a.v ≡ unused_in a costs slot true
   unfolding unused_in
-  in_used b h = rw h
+  in_used = refl
 
-  pub in_rest : (b : Bool) → b ≡ false → a.v ≡ 0 → a.d ≡ 0 → a.t ≡ 0 → zero_from a.succ costs slot 0 ≡ unused_in a costs slot b
+  pub in_rest : a.v ≡ 0 → a.d ≡ 0 → a.t ≡ 0 → zero_from a.succ costs slot 0 ≡ unused_in a costs slot false
   unfolding unused_in
-  in_rest b h v d t = rw (h, eq-eqb a.v 0 v, eq-eqb a.d 0 d, eq-eqb a.t 0 t)
+  in_rest v d t = rw (eq-eqb a.v 0 v, eq-eqb a.d 0 d, eq-eqb a.t 0 t)
 
-  pub in_v : (b : Bool) → b ≡ false → (a.v ≡ 0 → ⊥) → false ≡ unused_in a costs slot b
+  pub in_some : (a.v ≡ 0 → a.d ≡ 0 → a.t ≡ 0 → ⊥) → false ≡ unused_in a costs slot false
   unfolding unused_in
-  in_v b h n = rw (h, ne_eqb a.v 0 n)
-
-  pub in_d : (b : Bool) → b ≡ false → (a.d ≡ 0 → ⊥) → false ≡ unused_in a costs slot b
-  unfolding unused_in
-  in_d b h n = rw (h, ne_eqb a.d 0 n, and-false (eqb a.v 0))
-
-  pub in_t : (b : Bool) → b ≡ false → (a.t ≡ 0 → ⊥) → false ≡ unused_in a costs slot b
-  unfolding unused_in
-  in_t b h n = rw (h, ne_eqb a.t 0 n, and-false (eqb a.v 0 && eqb a.d 0))
+  in_some n = go (ℕ_discrete a.v 0) (ℕ_discrete a.d 0) (ℕ_discrete a.t 0)
+    where
+      go : Dec (a.v ≡ 0) → Dec (a.d ≡ 0) → Dec (a.t ≡ 0) → false ≡ (eqb a.v 0 && eqb a.d 0 && eqb a.t 0 && zero_from a.succ costs slot 0)
+      go (yes v) (yes d) (yes t) = absurd (n v d t)
+      go (no v) d t = rw (ne_eqb a.v 0 v)
+      go (yes v) (no d) t = rw (eq-eqb a.v 0 v, ne_eqb a.d 0 d)
+      go (yes v) (yes d) (no t) = rw (eq-eqb a.v 0 v, eq-eqb a.d 0 d, ne_eqb a.t 0 t)
 
 -- ---- the table
 module _ (t : Table) where
   unfoldable pub unused_at : ℕ → Bool
   unused_at i = unused_in (task t i) t.costs (16 * i) (ltb i t.n)
+
+  pub at_used : (i : ℕ) → i < t.n → zero_from (task t i).succ t.costs (16 * i) (task t i).v ≡ unused_at i
+  unfolding unused_at
+  at_used i h = rw (lt-ltb i t.n h) (in_used (task t i) t.costs (16 * i))
+
+  pub at_rest : (i : ℕ) → t.n ≤ i → unused_in (task t i) t.costs (16 * i) false ≡ unused_at i
+  unfolding unused_at
+  at_rest i h = rw (le-ltb i t.n h) refl
 
   at_same : (i : ℕ) → pick (ltb i t.n) (all 16 (λ u. ltb u (vertices t i) || zero_vertex t i u)) (zero_entry t i && all 16 (zero_vertex t i)) ≡ unused_at i
   unfolding unused_at unused_in zero_from zero_vertex zero_entry vertices D T succ cost

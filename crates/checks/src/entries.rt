@@ -1,5 +1,5 @@
 // The writer's test 10: an unused entry that isn't zero.
-ghost use Rattle.std.specs.Prelude.{◌≡◌, ◌+◌, ◌≤◌};
+ghost use Rattle.std.specs.Prelude.{◌≡◌, ◌+◌, ◌≤◌, false};
 ghost use Rattle.table.specs.Writing.{unused_zero};
 ghost use Rattle.checks.specs.Checking.{zero_from, unused_in};
 
@@ -10,53 +10,39 @@ fn zero_from(succ: [u16; 16], costs: &[u32; 256], slot: usize, from: usize) -> b
     requires { slot + 16 ≤ 256 }
     ensures { result ≡ zero_from succ costs.now slot from }
 {
-    let mut u = from;
-    while u < 16 {
-        if costs[slot + u] != 0 {
+    for u in from..16 {
+        if costs[slot + u] != 0 || succ[u] != 0 {
             return false;
         }
-        if succ[u] != 0 {
-            return false;
-        }
-        u += 1;
     }
     true
 }
 
-// Whether what is unused in a task is zero: of a task from n on, all.
-fn unused_in(task: Task, costs: &[u32; 256], slot: usize, used: bool) -> bool
+// Whether a task from n on is zero wholly.
+fn zero_task(task: Task, costs: &[u32; 256], slot: usize) -> bool
     requires { slot + 16 ≤ 256 }
-    ensures { result ≡ unused_in task costs.now slot used }
+    ensures { result ≡ unused_in task costs.now slot false }
 {
-    let succ = task.succ;
-    if used {
-        return zero_from(succ, costs, slot, task.v as usize);
-    }
-    if task.v != 0 {
+    if task.v != 0 || task.d != 0 || task.t != 0 {
         return false;
     }
-    if task.d != 0 {
-        return false;
-    }
-    if task.t != 0 {
-        return false;
-    }
-    zero_from(succ, costs, slot, 0)
+    zero_from(task.succ, costs, slot, 0)
 }
 
 // Whether each unused entry of a table is zero.
 pub fn unused_zero(table: Table) -> bool
     ensures { result ≡ unused_zero table }
 {
-    let n = table.n as usize;
-    let mut i: usize = 0;
-    while i < 16 {
+    for i in 0..16 {
         let task = table.tasks[i];
-        let used = i < n;
-        if !unused_in(task, &table.costs, 16 * i, used) {
+        let zero = if i < usize::from(table.n) {
+            zero_from(task.succ, &table.costs, 16 * i, usize::from(task.v))
+        } else {
+            zero_task(task, &table.costs, 16 * i)
+        };
+        if !zero {
             return false;
         }
-        i += 1;
     }
     true
 }

@@ -6,11 +6,3 @@ mod entries;
 
 pub use checking::{check, edges_of};
 pub use entries::unused_zero;
-use table::Outcome;
-
-// The tests on a table, or on a part of it, in file order: the refusal, or the place after it.
-#[derive(Clone, Copy)]
-pub struct Checked {
-    pub outcome: Outcome,
-    pub next: usize,
-}

@@ -2,10 +2,11 @@
 -- job that does not finish, so each task's list of them is that of the definition; where the rows are tidy, a task of which no job ends has no gap, and
 -- closing it would change nothing.
 use Rattle.std.proofs.Common.{◌≡◌, ℕ, ◌+◌, ◌-◌, ◌*◌, ◌/◌, ◌%◌, ◌<◌, ◌≤◌, Bool, true, false, not, ◌&&◌, eqb, ltb, List, length, get_or, sym, refl, ap, ◌∙◌, ap₂, arith, le-ltb, lt-ltb}
+use Rattle.std.proofs.Common.{Option, Some, None}
 use native.Mathlib.Decide.{dec_lt}
 use lib.Bits.{bit_and}
-use Rattle.graph.specs.Words.{flag, pick, bit, sum, row, those_below, lowest, set_of}
-use Rattle.graph.proofs.Facts.{clash, both_true, off_when, sum_same, count_below, row_at, lowest_or_none}
+use Rattle.graph.specs.Words.{flag, pick, bit, sum, row, those_below, lowest_or, set_of}
+use Rattle.graph.proofs.Facts.{clash, both_true, off_when, sum_same, count_below, row_at}
 use Rattle.graph.proofs.Bits.{bit_and_lem, bit_not}
 use Rattle.graph.proofs.Sets.{set_small, bit_set, bit_first}
 use Rattle.graph.proofs.Members.{below_same}
@@ -23,7 +24,7 @@ use Rattle.machine.specs.Rows.{place_by, tasks_by, used_by, rows_after, going_by
 use Rattle.machine.specs.Ticking.{ticked, judged, advance_to}
 use Rattle.machine.proofs.Places.{below_at, count_first, place_none}
 use Rattle.machine.proofs.Clauses.{jobs_four}
-use Rattle.machine.proofs.Lowest.{lowest_or_is, found, found_none, lowest_ext}
+use Rattle.machine.proofs.Found.{lowest_some, lowest_no, lowest_same}
 use Rattle.machine.proofs.Filling.{row_ext, set_ext}
 use Rattle.machine.proofs.Gathering.{place_ext}
 use Rattle.machine.proofs.Apart.{slot_of}
@@ -271,36 +272,34 @@ module _ (clock : ℕ) (phase : Phase) (begun : ℕ) (deadlines waits rest work 
           ∙ ap (λ (ws : List ℕ). record { clock = wrap (clock + 1); phase = phase; tasks = tasks_by live' deadlines' waits; remaining = rest'; work = ws }) work_is
 
       -- ---- STEP 6
-      module _ (chosen : List ℕ) (next late : ℕ) (nx : next ≡ wrap (clock + 1))
-          (le : late ≡ lowest 16 16 (λ i. any_place (λ p. bit live' (16 * p + i) && eqb (get_or deadlines' (16 * p + i) 0) next))) where
+      module _ (chosen : List ℕ) (next : ℕ) (late : Option ℕ) (nx : next ≡ wrap (clock + 1))
+          (le : late ≡ lowest_or 16 (λ i. any_place (λ p. bit live' (16 * p + i) && eqb (get_or deadlines' (16 * p + i) 0) next)) Some None) where
         clock_is : next ≡ (ended after).clock
         unfolding ended rows_after
         clock_is = nx
 
-        late_is : late ≡ lowest 16 16 (missed (ended after))
-        late_is = le ∙ lowest_ext 16 16 _ _ (λ i b.
+        late_is : late ≡ lowest_or 16 (missed (ended after)) Some None
+        late_is = le ∙ lowest_same 16 _ _ Some None (λ i b.
             ap (λ (n : ℕ). any_place (λ p. bit live' (16 * p + i) && eqb (get_or deadlines' (16 * p + i) 0) n)) nx
             ∙ sym (rows_missed clock phase live' deadlines' waits rest' work' i b)
             ∙ ap (λ (s : State). missed s i) (sym rows_ended))
 
         -- a deadline is missed
-        pub rows_miss : late < 16 → (r : Ticked) → r ≡ ticked 34 late chosen over (zeros next (Stopped late)) → r ≡ advance_to chosen after
+        pub rows_miss : (task : ℕ) → late ≡ Some task → (r : Ticked) → r ≡ ticked 34 task chosen over (zeros next (Stopped task)) → r ≡ advance_to chosen after
         unfolding advance_to judged
-        rows_miss h r e =
+        rows_miss task h r e =
             e
-            ∙ ap₂ (λ (d k : ℕ). ticked 34 late chosen d (zeros k (Stopped late))) over_is clock_is
-            ∙ sym (lowest_or_is 16 (missed (ended after)) (λ i. ticked 34 i chosen (finished after) (zeros (ended after).clock (Stopped i))) _ late
-            (found 16 16 (missed (ended after)) (omega arith) late late_is h))
+            ∙ ap₂ (λ (d k : ℕ). ticked 34 task chosen d (zeros k (Stopped task))) over_is clock_is
+            ∙ sym (lowest_some 16 (missed (ended after)) (λ i. ticked 34 i chosen (finished after) (zeros (ended after).clock (Stopped i))) _ task (sym late_is ∙ h))
 
         -- or none is
-        pub rows_go : 16 ≤ late → (tasks : List TaskState) → tasks ≡ tasks_by live' deadlines' waits
+        pub rows_go : late ≡ None → (tasks : List TaskState) → tasks ≡ tasks_by live' deadlines' waits
             → (r : Ticked) → r ≡ ticked 0 255 chosen over (record { clock = next; phase = phase; tasks = tasks; remaining = rest'; work = work' }) → r ≡ advance_to chosen after
         unfolding advance_to judged rows_after
         rows_go h tasks q r e =
             e
             ∙ ap₂ (λ (d : ℕ) (s : State). ticked 0 255 chosen d s) over_is (state_is ∙ sym rows_ended)
-            ∙ sym (lowest_or_none 16 (missed (ended after)) (λ i. ticked 34 i chosen (finished after) (zeros (ended after).clock (Stopped i))) _
-            (found_none 16 16 (missed (ended after)) (omega arith) late late_is h))
+            ∙ sym (lowest_no 16 (missed (ended after)) (λ i. ticked 34 i chosen (finished after) (zeros (ended after).clock (Stopped i))) _ (sym late_is ∙ h))
           where
             state_is : record { clock = next; phase = phase; tasks = tasks; remaining = rest'; work = work' } ≡ rows_after clock phase live' deadlines' waits rest' work'
             state_is = ap₂ (λ (k : ℕ) (ts : List TaskState). record { clock = k; phase = phase; tasks = ts; remaining = rest'; work = work' }) nx q

@@ -5,12 +5,11 @@ use native.Mathlib.Decide.{ℕ_discrete}
 use lib.Pow.{pow-lt, field, mod-mod-pow}
 use lib.Bits.{bit_and, bit_or, or_lt}
 use lib.Count.{count_trailing_zeros}
-use Rattle.graph.specs.Words.{bit, all, lowest, set_of}
+use Rattle.graph.specs.Words.{bit, all, set_of}
 use Rattle.graph.proofs.Facts.{all_same}
 use Rattle.graph.proofs.Bits.{bit_or_lem, bit_zero, bit_one}
 use Rattle.graph.proofs.Sets.{set_is, bit_set}
 use Rattle.machine.specs.Steps.{any_place}
-use Rattle.machine.proofs.Lowest.{lowest_ext}
 use Rattle.machine.proofs.Sweeping.{first_small, first_in, falls, others_same, still_in}
 
 pub place_ext : (f g : ℕ → Bool) → ((p : ℕ) → p < 4 → f p ≡ g p) → any_place f ≡ any_place g
@@ -153,9 +152,8 @@ places_of f i =
 pub tasks_of : (set : ℕ) → parts set % 65536 ≡ set_of 16 (λ i. any_place (λ p. bit set (16 * p + i)))
 tasks_of set = set_is 16 (parts set % 65536) _ (omega arith) (λ i b. bit_mod (parts set) i b ∙ bit_parts set i ∙ places_of (bit set) i)
 
--- ---- the lowest task with a slot in a set
-pub lowest_task : (set tasks r : ℕ) (test : ℕ → Bool) → set ≡ set_of 64 test → tasks ≡ set_of 16 (λ i. any_place (λ p. bit set (16 * p + i)))
-    → r ≡ lowest 16 16 (bit tasks) → r ≡ lowest 16 16 (λ i. any_place (λ p. test (16 * p + i)))
-lowest_task set tasks r test e f g = g ∙ lowest_ext 16 16 _ _ (λ i b.
+pub tasks_with : (set tasks : ℕ) (test : ℕ → Bool) → set ≡ set_of 64 test → tasks ≡ set_of 16 (λ i. any_place (λ p. bit set (16 * p + i)))
+    → (i : ℕ) → i < 16 → bit tasks i ≡ any_place (λ p. test (16 * p + i))
+tasks_with set tasks test e f i b =
     ap (λ (n : ℕ). bit n i) f ∙ bit_set 16 _ i b
-    ∙ place_ext _ _ (λ p c. ap (λ (n : ℕ). bit n (16 * p + i)) e ∙ bit_set 64 test (16 * p + i) (omega arith)))
+    ∙ place_ext _ _ (λ p c. ap (λ (n : ℕ). bit n (16 * p + i)) e ∙ bit_set 64 test (16 * p + i) (omega arith))

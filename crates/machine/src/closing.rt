@@ -1,6 +1,6 @@
 // Steps 5 and 6 where the rows lie: which jobs end, what closes their gaps, and which deadline is missed.
 ghost use Rattle.std.specs.Prelude.{◌≡◌, ◌+◌, ◌*◌, ◌/◌, ◌%◌, ◌<◌, Some, None, false, ◌&&◌, length, ◌==◌, nat_lt, slice_index};
-ghost use Rattle.graph.specs.Words.{pick, bit, row, lowest, set_of};
+ghost use Rattle.graph.specs.Words.{pick, bit, row, lowest_or, set_of};
 ghost use Rattle.machine.specs.Steps.{any_place};
 ghost use Rattle.machine.specs.Rows.{source_by, closed_by};
 
@@ -23,19 +23,23 @@ pub(crate) fn tasks_in(set: u64) -> u16
     (any % 65536) as u16
 }
 
-// Step 6: the lowest task with a live slot whose deadline is the clock, 16 if there is none.
-pub(crate) fn first_late(live: u64, deadlines: &[u32; 64], clock: u32) -> u8
-    ensures { result ≡ lowest 16 16 (λ i. any_place (λ p. bit live (16 * p + i) && slice_index deadlines.now (16 * p + i) == clock)) }
+// Step 6: the lowest task with a live slot whose deadline is the clock.
+pub(crate) fn first_late(live: u64, deadlines: &[u32; 64], clock: u32) -> Option<u8>
+    ensures { result ≡ lowest_or 16 (λ i. any_place (λ p. bit live (16 * p + i) && slice_index deadlines.now (16 * p + i) == clock)) Some None }
 {
     let late = held::passing(live, |s| deadlines[s] == clock);
     lowest_in(tasks_in(late))
 }
 
-// The lowest member, 16 if there is none.
-fn lowest_in(set: u16) -> u8
-    ensures { result ≡ lowest 16 16 (bit set) }
+// The lowest member.
+fn lowest_in(set: u16) -> Option<u8>
+    ensures { result ≡ lowest_or 16 (bit set) Some None }
 {
-    set.trailing_zeros() as u8
+    if set == 0 {
+        None
+    } else {
+        Some(set.trailing_zeros() as u8)
+    }
 }
 
 // The slots of the tasks in a set.

@@ -88,21 +88,20 @@ impl Rows {
             &mut self.work,
         );
         let next = self.clock.wrapping_add(1);
-        let late = closing::first_late(live, &self.deadlines, next);
-        if late < 16 {
-            return Ticked {
+        match closing::first_late(live, &self.deadlines, next) {
+            Some(late) => Ticked {
                 answer: Answer::of(34, late, chosen, over),
                 state: opening::zeros(next, Phase::Stopped(late)),
-            };
-        }
-        Ticked {
-            answer: Answer::of(0, 255, chosen, over),
-            state: State {
-                clock: next,
-                phase: self.phase,
-                tasks: held::together(live, &self.deadlines, &self.waits),
-                remaining: self.remaining,
-                work: self.work,
+            },
+            None => Ticked {
+                answer: Answer::of(0, 255, chosen, over),
+                state: State {
+                    clock: next,
+                    phase: self.phase,
+                    tasks: held::together(live, &self.deadlines, &self.waits),
+                    remaining: self.remaining,
+                    work: self.work,
+                },
             },
         }
     }

@@ -66,7 +66,7 @@ pub(crate) fn tick_on(t: Table, st: State, named: u16) -> Ticked
         return Ticked::refused(st, reply);
     }
     rows.release(t, named);
-    let chosen = choosing::own_choice(t, rows.clock, rows.live, &rows.deadlines, &rows.remaining);
+    let chosen = choosing::own_choice(t, &rows);
     rows.run(chosen);
     let done = rows.done();
     rows.told(chosen, done, closing::tasks_in(done))
@@ -90,7 +90,7 @@ pub fn offered(t: Table, st: State, named: u16) -> Offer
     let mut rows = Rows::of(&st);
     rows.release(t, named);
     Offer {
-        sets: choosing::sets_of(t, rows.live, &rows.remaining),
+        sets: choosing::sets_of(&t, rows.live, &rows.remaining),
         left: rows.ticks_left(),
     }
 }

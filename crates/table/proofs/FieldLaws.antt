@@ -21,6 +21,11 @@ use Rattle.table.specs.Reading.{onward, field, mark_at, ranged, byte_at, value4,
 pub handed : {T : Type 0} (r : Result T Outcome) (o : Outcome) → IsErrAnd r (λ q. q ≡ o) → r ≡ Err o
 handed r o h = let p = err_from_is_err_and r h in p.1 ∙ ap Err p.2
 
+-- what follows a field or a part went well: so did that
+pub past : {T : Type 0} (f : Result ℕ Outcome) (go : ℕ → Result T Outcome) (y : T) → Ok y ≡ onward f Err go → (x : ℕ) × (Ok x ≡ f) × (Ok y ≡ go x)
+past (Ok x) go y h = (x, refl, h)
+past (Err o) go y h = let z : ◌≡◌ {A = ℕ} 0 1 = cc in absurd (omega arith)
+
 -- ---- any field: 1 first, then its own rules
 module _ (size : ℕ) (s : List ℕ) (at : ℕ) where
   pub field_short : (rules : Result ℕ Outcome) → length s < at + size → Err (Short at) ≡ field size s at rules

@@ -20,7 +20,7 @@ use Rattle.table.specs.Memory.{no_costs, no_succ, no_tasks, no_row}
 use Rattle.table.specs.Numbers.{number}
 use Rattle.table.specs.Reading.{TaskRead, EdgesRead, CostsRead, onward, mark_at, byte_at, ticks_at, period_at, costs_at, edges_at, bad_task, parts_at, task_at, put_costs, bad_table, with_task, tasks_at, table_at, refused, ending, read}
 use Rattle.table.specs.Parts.{told, marked, found, InRow, ZeroFrom, head_at}
-use Rattle.table.proofs.FieldLaws.{on_mark, mark_stops, byte_read}
+use Rattle.table.proofs.FieldLaws.{past, on_mark, mark_stops, byte_read}
 use Rattle.table.proofs.FieldViews.{Bad, bad_by, View, value, halt, halted, mark_view, byte_view, ticks_view, period_view}
 use Rattle.table.proofs.PartLaws.{not_read, answer_err, answer_ok}
 use Rattle.table.proofs.RowLaws.{costs_in_row}
@@ -210,19 +210,15 @@ module _ (s : List ℕ) (at : ℕ) where
   pub table_tasks : (h : Head) → Ok h ≡ head_at s at → tasks_at s h.n 0 (at + 4) (empty h) ≡ table_at s at
   table_tasks h e = sym (by_head ∙ rw (← e) refl)
 
-  read_on : (f : Result ℕ Outcome) (go : ℕ → Result Head Outcome) (h : Head) → Ok h ≡ onward f Err go → (x : ℕ) × (f ≡ Ok x) × (Ok h ≡ go x)
-  read_on (Ok x) go h e = (x, refl, e)
-  read_on (Err o) go h e = let z : ◌≡◌ {A = ℕ} 0 1 = cc in absurd (omega arith)
-
   -- what its fields say of the input and of m and n
   pub head_read : (h : Head) → Ok h ≡ head_at s at → (at + 4 ≤ length s) × (h.m ≤ 8) × (h.n ≤ 16)
   unfolding head_at
   head_read h e =
-      let a = read_on (mark_at 0x42 s at) _ h e in
-      let b = read_on (byte_at 1 8 s (at + 2)) _ h a.2 in
-      let c = read_on (byte_at 1 16 s (at + 3)) _ h b.2 in
-      let k = byte_read 1 8 s (at + 2) b.0 (sym b.1) in
-      let l = byte_read 1 16 s (at + 3) c.0 (sym c.1) in
+      let a = past (mark_at 0x42 s at) _ h e in
+      let b = past (byte_at 1 8 s (at + 2)) _ h a.2 in
+      let c = past (byte_at 1 16 s (at + 3)) _ h b.2 in
+      let k = byte_read 1 8 s (at + 2) b.0 b.1 in
+      let l = byte_read 1 16 s (at + 3) c.0 c.1 in
       let q : h ≡ record { m = b.0; n = c.0 } = ok_same h _ c.2 in
       let m = ap (λ (x : Head). x.m) q in
       let n = ap (λ (x : Head). x.n) q in

@@ -1,22 +1,25 @@
 -- Laws of bytes that are put into a buffer part after part, for the writer's code.
 use mathlib.Core.Path.{◌≡◌, refl, sym, ap, ◌∙◌}
+use mathlib.Core.Bool.{Bool, true, false}
 use mathlib.Core.List.{List, [], ◌∷◌, ◌++◌, append_assoc}
-use Prim.Native.Nat.{ℕ, zero, suc, ◌+◌, ◌*◌, ◌-◌, ◌/◌, ◌%◌, ◌^◌, ◌≤◌, ◌<◌}
+use Prim.Native.Nat.{ℕ, zero, suc, ◌+◌, ◌*◌, ◌-◌, ◌/◌, ◌%◌, ◌≤◌, ◌<◌}
 use native.Mathlib.Omega.{arith}
 use native.Mathlib.Numerals.{add-one}
-use native.Mathlib.Nat.{add-zero, div-one, sub-zero}
-use lib.ListN.{length, get_or, set, drop, length-append}
-use lib.Seq.{sets, sets-eq}
-use lib.Count.{count_trailing_zeros, under}
-use lib.Pow.{shr-shr, pow_mono}
-use Rattle.graph.specs.Words.{also_if, join_from, in_order}
+use native.Mathlib.Nat.{add-zero, zero-add, sub-zero}
+use lib.ListN.{length, get_or, set, take, drop, length-append}
+use lib.Seq.{sets, sets-eq, drop-drop}
+use borrow.Rule.Slice.PartMut.{put_mid}
+use Rattle.std.specs.Int.{w32, to_le_bytes}
+use lib.Dec.{eqb}
+use Rattle.graph.specs.Words.{bit, row_from, row, also_if, those, those_below, members, join_from, in_order}
+use Rattle.graph.proofs.Members.{Took}
 use Rattle.table.specs.declared.Task.{Task}
 use Rattle.table.specs.declared.Table.{Table}
 use Rattle.table.specs.Memory.{task, vertices, D, T, succ, cost}
 use Rattle.table.specs.Writing.{bytes4, edge_bytes, encode_task, encode}
 use Rattle.checks.specs.Checking.{row_keys, keys_of}
 use Rattle.writer.specs.Putting.{cost_bytes, task_bytes}
-use Rattle.checks.proofs.Keys.{keys_are}
+use Rattle.checks.proofs.Keys.{bit_low, bit_up, keys_are}
 use Rattle.table.proofs.Places.{costs_long, edges_long}
 use Rattle.checks.proofs.TestLaws.{join_next, join_end, keys_from, keys_next}
 
@@ -34,6 +37,16 @@ sets_then xs ys l l' i j e q = rw (e, q) (sym (sets_sets xs ys l i))
 -- at the front
 pub sets_front : (xs l : List ℕ) → length xs ≤ length l → sets l 0 xs ≡ xs ++ drop (length xs) l
 sets_front xs l h = let z : 0 + length xs ≡ length xs = omega arith in sets-eq xs l 0 (omega arith) ∙ ap (λ (n : ℕ). xs ++ drop n l) z
+
+-- a part of the buffer that was written over
+pub put_part : (a k : ℕ) (l ys vs : List ℕ) → ys ≡ vs → k ≡ length vs → a + length vs ≤ length l → put_mid a k l ys ≡ sets l a vs
+put_part a k l ys vs e q h =
+    rw e (ap (λ (z : List ℕ). take a l ++ (vs ++ z)) (drop-drop k a l ∙ ap (λ (n : ℕ). drop (a + n) l) q)
+    ∙ sym (append_assoc (take a l) vs (drop (a + length vs) l)) ∙ sym (sets-eq vs l a h))
+
+pub le_four : (x : ℕ) → to_le_bytes w32 x ≡ bytes4 x
+unfolding bytes4
+le_four x = refl
 
 -- ---- costs from vertex u on
 unfoldable pub costs_from : List ℕ → ℕ → ℕ → ℕ → List ℕ
@@ -55,52 +68,39 @@ pub four_long : (x : ℕ) → length (bytes4 x) ≡ 4
 unfolding bytes4
 four_long x = refl
 
--- ---- the edges of a vertex, from one set bit to the next
-row_odd : (k u w x : ℕ) → x % 2 ≡ 1 → row_keys (suc k) u w x ≡ (16 * u + w) ∷ row_keys k u (w + 1) (x / 2)
-unfolding row_keys also_if
-row_odd k u w x e = rw e
+-- ---- the edges of a vertex, to one member of its set after the other
+keys_in : ℕ → List ℕ → List ℕ
+keys_in u [] = []
+keys_in u (w ∷ l) = (16 * u + w) ∷ keys_in u l
+
+also_key : (u w : ℕ) (l : List ℕ) (b : Bool) → also_if b (16 * u + w) (keys_in u l) ≡ keys_in u (also_if b w l)
+unfolding also_if keys_in
+also_key u w l true = refl
+also_key u w l false = refl
+
+row_from_set : (p : ℕ → Bool) (k u w x : ℕ) → ((j : ℕ) → j < k → p (w + j) ≡ bit x j) → row_keys k u w x ≡ keys_in u (those p (row_from k w (λ j. j)))
+unfolding row_keys those row_from keys_in
+row_from_set p zero u w x h = refl
+row_from_set p (suc k) u w x h =
+    let b : p w ≡ eqb (x % 2) 1 = ap p (sym (add-zero w)) ∙ h 0 (omega arith) ∙ bit_low x in
+    let i = row_from_set p k u (w + 1) (x / 2) (λ j l.
+    let e : w + 1 + j ≡ w + suc j = omega arith in
+    ap p e ∙ h (suc j) (omega arith) ∙ bit_up x j) in
+    ap (λ (c : Bool). also_if c (16 * u + w) (row_keys k u (w + 1) (x / 2))) (sym b)
+    ∙ ap (also_if (p w) (16 * u + w)) (i ∙ ap (λ (n : ℕ). keys_in u (those p (row_from k n (λ j. j)))) (add-one w))
+    ∙ also_key u w (those p (row_from k (suc w) (λ j. j))) (p w)
+
+row_set : (u x : ℕ) → row_keys 16 u 0 x ≡ keys_in u (members x)
+unfolding members those_below row
+row_set u x = row_from_set (bit x) 16 u 0 x (λ j l. ap (bit x) (zero-add j))
+
+pub row_took : (u x w y : ℕ) → Took x w y → row_keys 16 u 0 x ≡ (16 * u + w) ∷ row_keys 16 u 0 y
+unfolding keys_in
+row_took u x w y t = row_set u x ∙ ap (keys_in u) t.listed ∙ ap (λ (l : List ℕ). (16 * u + w) ∷ l) (sym (row_set u y))
 
 row_even : (k u w x : ℕ) → x % 2 ≡ 0 → row_keys (suc k) u w x ≡ row_keys k u (w + 1) (x / 2)
 unfolding row_keys also_if
 row_even k u w x e = rw e
-
-abbrev Skips : ℕ → ℕ → ℕ → ℕ → ℕ → Type 0
-Skips k u w x z = (z < k) × (row_keys k u w x ≡ (16 * u + (w + z)) ∷ row_keys (k - (z + 1)) u (w + z + 1) (x / 2 ^ z / 2)) × (x / 2 ^ z / 2 < 2 ^ (k - (z + 1)))
-
-skip_one : (k u w x z : ℕ) → x % 2 ≡ 0 → Skips k u (w + 1) (x / 2) z → Skips (suc k) u w x (suc z)
-skip_one k u w x z e i =
-    let a : w + 1 + z ≡ w + suc z = omega arith in
-    let b : k - (z + 1) ≡ suc k - (suc z + 1) = omega arith in
-    let c : 1 + z ≡ suc z = omega arith in
-    let d : x / 2 / 2 ^ z ≡ x / 2 ^ suc z = shr-shr x 1 z ∙ ap (λ (n : ℕ). x / 2 ^ n) c in
-    let l = i.0 in
-    (omega arith, rw (← a, ← b, ← d) (row_even k u w x e ∙ i.1), rw (← b, ← d) i.2)
-
-skip_none : (k u w x : ℕ) → x % 2 ≡ 1 → x < 2 ^ suc k → Skips (suc k) u w x 0
-skip_none k u w x e h =
-    let a : w + 0 ≡ w = add-zero w in
-    let b : suc k - 1 ≡ k = omega arith in
-    (omega arith, rw (a, b, div-one x) (row_odd k u w x e), rw (b, div-one x) (omega arith))
-
-pub skips : (d k u w x : ℕ) → 0 < x → x < 2 ^ d → x < 2 ^ k → Skips k u w x (count_trailing_zeros d x)
-unfolding count_trailing_zeros
-skips zero k u w x p h b = absurd (omega arith)
-skips (suc d) zero u w x p h b = absurd (omega arith)
-skips (suc d) (suc k) u w x p h b = go (x % 2) refl (λ e. skips d k u (w + 1) (x / 2) (omega arith) (omega arith) (omega arith))
-  where
-    go : (r : ℕ) → x % 2 ≡ r → (x % 2 ≡ 0 → Skips k u (w + 1) (x / 2) (count_trailing_zeros d (x / 2))) → Skips (suc k) u w x (under r (count_trailing_zeros d (x / 2)))
-    go zero e i = skip_one k u w x (count_trailing_zeros d (x / 2)) e (i e)
-    go (suc zero) e i = skip_none k u w x e b
-    go (suc (suc r)) e i = absurd (omega arith)
-
-pub next_bit : (u w x : ℕ) → w ≤ 16 → (x ≡ 0 → ⊥) → x < 2 ^ (16 - w) → Skips (16 - w) u w x (count_trailing_zeros 16 x)
-next_bit u w x h n b =
-    let m : 2 ^ (16 - w) ≤ 2 ^ 16 = pow_mono {j = 16} (omega arith) in
-    skips 16 (16 - w) u w x (pos x n) (omega arith) b
-  where
-    pos : (x : ℕ) → (x ≡ 0 → ⊥) → 0 < x
-    pos zero n = absurd (n refl)
-    pos (suc x) n = omega arith
 
 pub no_bits : (k u w x : ℕ) → x ≡ 0 → row_keys k u w x ≡ []
 unfolding row_keys also_if
@@ -110,14 +110,13 @@ no_bits (suc k) u w x e =
     let y : x % 2 ≡ 0 = omega arith in
     row_even k u w x y ∙ no_bits k u (w + 1) (x / 2) z
 
-pub put_key : (l ks : List ℕ) (p u y : ℕ) → y < 16 → sets (set (set l p u) (p + 1) (y % 256)) (p + 2) (edge_bytes ks) ≡ sets l p (edge_bytes ((16 * u + y) ∷ ks))
+pub put_key : (l ks : List ℕ) (p u y : ℕ) → y < 16 → sets (set (set l p u) (p + 1) y) (p + 2) (edge_bytes ks) ≡ sets l p (edge_bytes ((16 * u + y) ∷ ks))
 unfolding edge_bytes
 put_key l ks p u y h =
     let a : (16 * u + y) / 16 ≡ u = omega arith in
     let b : (16 * u + y) % 16 ≡ y = omega arith in
-    let c : y % 256 ≡ y = omega arith in
     let d : p + 2 ≡ suc (suc p) = omega arith in
-    rw (a, b, c, add-one p, d)
+    rw (a, b, add-one p, d)
 
 pub no_edges : edge_bytes [] ≡ []
 unfolding edge_bytes

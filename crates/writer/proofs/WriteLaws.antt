@@ -1,6 +1,7 @@
 -- What writing answers and leaves in the buffer, from the tests on the table itself.
 use mathlib.Core.Path.{◌≡◌, sym, ap, ◌∙◌}
 use mathlib.Core.Bool.{true, false}
+use Rattle.std.specs.Prelude.{Ok, Err}
 use mathlib.Core.List.{List, ◌++◌}
 use Prim.Native.Nat.{ℕ, ◌≤◌, ◌<◌}
 use lib.ListN.{length, drop}
@@ -13,10 +14,10 @@ use Rattle.table.specs.declared.Written.{Written}
 use Rattle.table.specs.declared.Written.TheVariants.{Done, Refused, Unused, Room}
 use Rattle.table.specs.Reading.{read}
 use Rattle.table.specs.Writing.{encode, unused_zero, writing, front_of, written}
-use Rattle.checks.specs.Checking.{checked}
+use Rattle.checks.specs.Checking.{outcome_of, checked}
 use Rattle.table.specs.Good.{Typed}
-use Rattle.checks.proofs.Otherwise.{NotRead, otherwise}
-use Rattle.checks.proofs.Checks.{checked_is, checked_length}
+use Rattle.table.proofs.PartLaws.{not_read}
+use Rattle.checks.proofs.Checks.{checked_is, checked_length, refused_own}
 use Rattle.writer.proofs.PutLaws.{sets_front}
 
 -- what is written: the buffer as it was, or the file and the rest of the buffer
@@ -44,22 +45,28 @@ module _ (t : Table) (buffer : List ℕ) (w : Written) (e : w ≡ writing t (len
       ∙ ap (front_of (encode t) buffer) (sym q) ∙ left
 
 module _ (t : Table) (typed : Typed t) (room : ℕ) where
-  pub says_refused : (o : Outcome) → o ≡ (checked t).outcome → NotRead o → Refused o ≡ writing t room
-  unfolding writing
-  says_refused o e h = rw (← checked_is t typed, ← e) (otherwise o Refused _ h)
+  pub says_refused : (o : Outcome) → Err o ≡ checked t → Refused o ≡ writing t room
+  unfolding writing outcome_of
+  says_refused o h =
+      let e : o ≡ (read (encode t)).outcome = ap outcome_of h ∙ checked_is t typed in
+      rw (← e) (not_read o Refused _ (refused_own t o h))
 
-  module _ (ok : (checked t).outcome ≡ Read) where
+  module _ (n : ℕ) (ok : Ok n ≡ checked t) where
     is_read_lem : (read (encode t)).outcome ≡ Read
-    is_read_lem = sym (checked_is t typed) ∙ ok
+    unfolding outcome_of
+    is_read_lem = sym (ap outcome_of ok ∙ checked_is t typed)
+
+    pub long : n ≡ length (encode t)
+    long = checked_length t typed n (sym ok)
 
     pub says_unused : unused_zero t ≡ false → Unused ≡ writing t room
     unfolding writing
     says_unused h = rw (is_read_lem, h)
 
-    pub says_room : unused_zero t ≡ true → room < (checked t).next → Room (checked t).next ≡ writing t room
+    pub says_room : unused_zero t ≡ true → room < n → Room n ≡ writing t room
     unfolding writing
-    says_room h l = rw (is_read_lem, h, checked_length t typed ok) (rw (lt-leb (length (encode t)) room (rw (checked_length t typed ok) at l)))
+    says_room h l = rw (is_read_lem, h, long) (rw (lt-leb (length (encode t)) room (rw long at l)))
 
-    pub says_done : unused_zero t ≡ true → (checked t).next ≤ room → Done (checked t).next ≡ writing t room
+    pub says_done : unused_zero t ≡ true → n ≤ room → Done n ≡ writing t room
     unfolding writing
-    says_done h l = rw (is_read_lem, h, checked_length t typed ok) (rw (le-leb (length (encode t)) room (rw (checked_length t typed ok) at l)))
+    says_done h l = rw (is_read_lem, h, long) (rw (le-leb (length (encode t)) room (rw long at l)))

@@ -12,19 +12,7 @@ use Rattle.checks.proofs.TestLaws.{keys_from, keys_start, keys_next, keys_end}
 use Rattle.checks.proofs.checking.edge_count.Goals as goal
 
 pub loop-u-init : goal.loop-u-init
-loop-u-init c = (search rules, search rules, omega (arith, ap length (keys_start c.args.v c.args.succ)))
-
-pub overflow_cast-n : goal.overflow_cast-n
-overflow_cast-n c =
-    let h : Fits w16 (get_or c.args.succ c.loop-u.u 0) = search rules in
-    let o = ones-le 16 (get_or c.args.succ c.loop-u.u 0) (omega arith) in
-    omega arith
-
-pub overflow_add-n : goal.overflow_add-n
-overflow_add-n c =
-    let h : Fits w16 (get_or c.args.succ c.loop-u.u 0) = search rules in
-    let o = ones-le 16 (get_or c.args.succ c.loop-u.u 0) (omega arith) in
-    omega arith
+loop-u-init c = (search rules, omega (arith, ap length (keys_start c.args.v c.args.succ)))
 
 pub loop-u-preserved : goal.loop-u-preserved
 loop-u-preserved c =
@@ -36,7 +24,7 @@ loop-u-preserved c =
     let m = row_many 16 u 0 x (omega arith) in
     let n = ap length (keys_next a.v a.succ u (search rules)) in
     let l = length-append (row_keys 16 u 0 x) (keys_from a.v a.succ (u + 1)) in
-    (search rules, omega arith, omega arith)
+    (omega arith, omega arith)
 
 pub returns : goal.returns
 returns c =

@@ -5,8 +5,7 @@ use lib.Count.{ones-le}
 use mir.Val.{Fits}
 use mir.Syntax.{w16}
 use borrow.Author.Rules.{rules}
-use Rattle.table.specs.declared.Outcome.TheVariants.{Read}
-use Rattle.checks.proofs.TestLaws.{row_passes, bits_pass}
+use Rattle.checks.proofs.TestLaws.{done, row_passes, bits_pass}
 use Rattle.checks.proofs.Keys.{row_many}
 use Rattle.checks.proofs.checking.row_tested.Goals as goal
 
@@ -33,5 +32,5 @@ returns-then-bits-u-eq0 c =
     let a = c.args in
     let h : Fits w16 a.bits = search rules in
     let m = row_many 16 a.u 0 a.bits (omega arith) in
-    ap (λ (n : ℕ). record { outcome = Read; next = a.at + 2 * n }) (sym m)
-    ∙ row_passes a.v 16 a.u 0 a.bits a.at (omega arith) (bits_pass a.v a.u a.bits c.if-high-eq0.true c.if-bits-u-eq0.true)
+    ap (λ (n : ℕ). done (a.at + 2 * n)) (sym m)
+    ∙ row_passes a.v 16 a.u 0 a.bits a.at (omega arith) (bits_pass a.v a.u a.bits (rw c.from.ensures at c.if-high-eq0.true) c.if-bits-u-eq0.true)

@@ -4,7 +4,4 @@ use Rattle.checks.specs.Checking.{row_keys, edges_tested}
 use Rattle.checks.proofs.checking.row_walked.Given as goal
 
 abbrev pub invariant-loop-w : goal.invariant-loop-w
-invariant-loop-w l = (l.w ≤ 16) × (l.p ≤ l.at + 2 * l.w) × (edges_tested l.v (row_keys (16 - l.w) l.u l.w l.x) l.p ≡ edges_tested l.v (row_keys 16 l.u 0 l.bits) l.at)
-
-abbrev pub decreases-loop-w : goal.decreases-loop-w
-decreases-loop-w l = 16 - l.w
+invariant-loop-w l = (l.p ≤ l.at + 2 * l.w) × (edges_tested l.v (row_keys (16 - l.w) l.u l.w l.x) l.p ≡ edges_tested l.v (row_keys 16 l.u 0 l.bits) l.at)

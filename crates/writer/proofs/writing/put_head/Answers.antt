@@ -1,16 +1,7 @@
-use native.Mathlib.Numerals.{towards_suc}
+use mathlib.Core.List.{[], ◌∷◌}
 use native.Mathlib.Omega.{arith}
-use lib.ListN.{length-set}
+use Rattle.writer.proofs.PutLaws.{put_part}
 use Rattle.writer.proofs.writing.put_head.Goals as goal
 
-pub bounds-buffer-at-2 : goal.bounds-buffer-at-2
-bounds-buffer-at-2 c = simp length-set (omega arith)
-
-pub bounds-buffer-at-3 : goal.bounds-buffer-at-3
-bounds-buffer-at-3 c = simp length-set (omega arith)
-
-pub bounds-buffer-at-4 : goal.bounds-buffer-at-4
-bounds-buffer-at-4 c = simp length-set (omega arith)
-
 pub returns : goal.returns
-returns c = simp towards_suc
+returns c = let a = c.args in put_part _ _ _ _ (0x54 ∷ a.mark ∷ a.first ∷ a.second ∷ []) c.copy_from_slice.ensures.after (omega arith) c.requires
