@@ -20,6 +20,8 @@ use Rattle.verdict.proofs.judging.unread.Kinds as unread-kinds
 use Rattle.verdict.proofs.judging.unread.Reads as unread-reads
 use Rattle.verdict.proofs.judging.with_chain.Kinds as with-chain-kinds
 use Rattle.verdict.proofs.judging.with_chain.Reads as with-chain-reads
+use Rattle.verdict.proofs.judging.chained.Kinds as chained-kinds
+use Rattle.verdict.proofs.judging.chained.Reads as chained-reads
 use Rattle.verdict.proofs.figuring.own_costs.Kinds as own-costs-kinds
 use Rattle.verdict.proofs.figuring.own_costs.Reads as own-costs-reads
 use Rattle.verdict.proofs.figuring.len_of.Kinds as len-of-kinds
@@ -51,6 +53,9 @@ unread_one κs args x y s t = by_definition
 
 pub with_chain_one : OneResult 0 with-chain-kinds.ps with-chain-kinds.r with-chain-reads.Post
 with_chain_one κs args x y s t = by_definition
+
+pub chained_one : OneResult 1 chained-kinds.ps chained-kinds.r chained-reads.Post
+chained_one κs args x y s t = by_definition
 
 pub own_costs_one : OneResult 1 own-costs-kinds.ps own-costs-kinds.r own-costs-reads.Post
 own_costs_one κs args x y s t = by_definition
