@@ -102,9 +102,7 @@ fn used_rows(succ: [u16; 16], v: usize) -> [u16; 16]
     ensures { result ≡ used_rows v succ }
 {
     let mut rows = [0u16; 16];
-    for u in 0..v {
-        rows[u] = succ[u];
-    }
+    rows[..v].copy_from_slice(&succ[..v]);
     rows
 }
 
