@@ -37,9 +37,9 @@ module _ (st : State) (sixteen : length st.tasks ≡ 16) where
   job_in_lem i p b c =
       let e : (16 * p + i) % 16 ≡ i = omega arith in
       let f : (16 * p + i) / 16 ≡ p = omega arith in
-      ap (λ (k : ℕ). (get_or (get_or st.tasks k no_task).jobs ((16 * p + i) / 16) no_job).job) e
-      ∙ ap (λ (k : ℕ). (get_or (get_or st.tasks i no_task).jobs k no_job).job) f
-      ∙ ap (λ (x : TaskState). (get_or x.jobs p no_job).job) (inside st.tasks i no_task idle (omega arith))
+      ap (λ (k : ℕ). (get_or (get_or st.tasks k no_task).jobs ((16 * p + i) / 16) no_job)) e
+      ∙ ap (λ (k : ℕ). (get_or (get_or st.tasks i no_task).jobs k no_job)) f
+      ∙ ap (λ (x : TaskState). (get_or x.jobs p no_job)) (inside st.tasks i no_task idle (omega arith))
 
   pub apart : (in_it : ℕ) (deadlines waits : List ℕ) → in_it ≡ set_of 64 (λ s. is_live (job_in st.tasks s))
       → deadlines ≡ row 64 (λ s. pick (bit in_it s) (deadline_of (job_in st.tasks s)) 0) → waits ≡ row 16 (λ i. (get_or st.tasks i no_task).wait)

@@ -12,7 +12,6 @@ use Rattle.slots.specs.Slots.{work_left}
 use Rattle.slots.proofs.Cases.{work_sum}
 use Rattle.machine.specs.declared.Job.{Job}
 use Rattle.machine.specs.declared.Job.TheVariants.{Nothing, Live}
-use Rattle.machine.specs.declared.Place.{Place}
 use Rattle.machine.specs.declared.TaskState.{TaskState}
 use Rattle.machine.specs.declared.State.{State}
 use Rattle.machine.specs.States.{no_job, idle, task_of, wait, job_at, is_live, deadline_of, live, deadline, jobs_of, remaining, wrap, ticks_left, left}
@@ -141,7 +140,7 @@ module _ (t : Table) (st : State) (named in_it fresh : ℕ) (deadlines waits dea
 
     places_are : (i : ℕ) → i < 16 → row 4 (place_by begun deadlines' i) ≡ (task_of mid i).jobs
     unfolding job_at
-    places_are i b = row_same 4 no_job _ (task_of mid i).jobs (four i b) (λ p c. ap (λ (x : Job). record { job = x }) (job_at_lem i p b c))
+    places_are i b = row_same 4 no_job _ (task_of mid i).jobs (four i b) (λ p c. ap (λ (x : Job). x) (job_at_lem i p b c))
 
     -- THE STATE AFTER STEP 4
     pub rows_worked : rows_after st.clock st.phase begun deadlines' waits' rest' work' ≡ worked t mid named chosen
@@ -151,7 +150,7 @@ module _ (t : Table) (st : State) (named in_it fresh : ℕ) (deadlines waits dea
         ∙ ap (λ (ws : List ℕ). record { clock = wrap (st.clock + 1); phase = st.phase; tasks = (worked t mid named chosen).tasks; remaining = (worked t mid named chosen).remaining; work = ws }) work_is
       where
         tasks_are : tasks_by begun deadlines' waits' ≡ (worked t mid named chosen).tasks
-        tasks_are = row_ext 16 idle _ _ (λ i b. ap₂ (λ (w : ℕ) (js : List Place). record { wait = w; jobs = js }) (wait_at i b) (places_are i b))
+        tasks_are = row_ext 16 idle _ _ (λ i b. ap₂ (λ (w : ℕ) (js : List Job). record { wait = w; jobs = js }) (wait_at i b) (places_are i b))
 
         rest_is : rest' ≡ (worked t mid named chosen).remaining
         rest_is = ran ∙ ap (λ (r : List ℕ). row 1024 (λ k. pick (is_in (name_at k) chosen) (get_or r k 0 - 1) (get_or r k 0))) (sym mid_rest)

@@ -9,7 +9,7 @@ use Rattle.table.specs.Memory as M
 use Rattle.table.specs.Memory.{no_succ, zero_task, no_task, task, vertices, succ, edge_in, cost}
 use Rattle.machine.specs.declared.Phase.TheVariants.{Running}
 use Rattle.machine.specs.declared.Job.TheVariants.{Live}
-use Rattle.machine.specs.declared.Place.{Place}
+use Rattle.machine.specs.declared.Job.{Job}
 use Rattle.machine.specs.declared.State.{State}
 use Rattle.machine.specs.declared.Ticked.{Ticked}
 use Rattle.machine.specs.States.{no_job, idle, task_of, wait, job_at, is_live, deadline_of, live, deadline, jobs_of, remaining, work_of, wrap, ticks_left, left, zeros}
@@ -21,8 +21,8 @@ use Rattle.machine.specs.Ticking.{nobody, triple_of, run_list, ticked, judged, a
 unfoldable pub one_task : Table
 one_task = record { m = 2; n = 1; tasks = record { v = 1; d = 8; t = 2; succ = no_succ } ∷ replicate 15 zero_task; costs = 8 ∷ replicate 255 0 }
 
-unfoldable pub due : ℕ → Place
-due d = record { job = Live d }
+unfoldable pub due : ℕ → Job
+due d = Live d
 
 -- three live jobs with 2, 4 and 6 ticks left, of which 2, 8 and 8 remain; the wait is 0
 unfoldable pub three : State

@@ -14,7 +14,6 @@ use Rattle.machine.specs.declared.Phase.{Phase}
 use Rattle.machine.specs.declared.Phase.TheVariants.{Stopped}
 use Rattle.machine.specs.declared.Job.{Job}
 use Rattle.machine.specs.declared.Job.TheVariants.{Nothing, Live}
-use Rattle.machine.specs.declared.Place.{Place}
 use Rattle.machine.specs.declared.TaskState.{TaskState}
 use Rattle.machine.specs.declared.State.{State}
 use Rattle.machine.specs.declared.Ticked.{Ticked}
@@ -43,7 +42,7 @@ module _ (clock : ℕ) (phase : Phase) (lives : ℕ) (deadlines waits rest work 
     module _ (p : ℕ) (h : p < 4) where
       pub rows_job : job_at rows i p ≡ pick (bit lives (16 * p + i)) (Live (get_or deadlines (16 * p + i) 0)) Nothing
       unfolding rows_after job_at task_of
-      rows_job = ap (λ (x : TaskState). (get_or x.jobs p no_job).job) (row_at 16 _ i idle b) ∙ ap (λ (x : Place). x.job) (row_at 4 _ p no_job h)
+      rows_job = ap (λ (x : TaskState). (get_or x.jobs p no_job)) (row_at 16 _ i idle b) ∙ ap (λ (x : Job). x) (row_at 4 _ p no_job h)
 
       pub rows_live : live rows i p ≡ bit lives (16 * p + i)
       unfolding live is_live
@@ -210,16 +209,16 @@ module _ (clock : ℕ) (phase : Phase) (begun : ℕ) (deadlines waits rest work 
       ends_at : (s : ℕ) → s < 64 → get_or deadlines' s 0 ≡ closed_by which on s (λ q. get_or deadlines q 0) 0
       ends_at s b = ap (λ (l : List ℕ). get_or l s 0) ed ∙ row_at 64 _ s 0 b
 
-      job_is : (i : ℕ) → i < 16 → (q : ℕ) → q < 4 → closed after i q (λ p. record { job = job_at after i p }) no_job ≡ place_by live' deadlines' i q
+      job_is : (i : ℕ) → i < 16 → (q : ℕ) → q < 4 → closed after i q (λ p. job_at after i p) no_job ≡ place_by live' deadlines' i q
       unfolding closed no_job
       job_is i b q h =
-          ap (λ (l : List ℕ). pick {X = Place} (ltb q (length l)) (record { job = job_at after i (get_or l q 0) }) no_job) (sym (on_list i b))
+          ap (λ (l : List ℕ). pick {X = Job} (ltb q (length l)) (job_at after i (get_or l q 0)) no_job) (sym (on_list i b))
           ∙ elim (dec_lt q (length (going_by on i))) [ yes l ↦ in_it l | no l ↦ out_of_it (omega arith) ]
         where
           p : ℕ
           p = get_or (going_by on i) q 0
 
-          in_it : q < length (going_by on i) → pick {X = Place} (ltb q (length (going_by on i))) (record { job = job_at after i p }) no_job ≡ place_by live' deadlines' i q
+          in_it : q < length (going_by on i) → pick {X = Job} (ltb q (length (going_by on i))) (job_at after i p) no_job ≡ place_by live' deadlines' i q
           in_it l =
               let r = from_on i b q h l in
               let job : job_at after i p ≡ Live (get_or deadlines (16 * p + i) 0) =
@@ -227,20 +226,20 @@ module _ (clock : ℕ) (phase : Phase) (begun : ℕ) (deadlines waits rest work 
               ∙ ap (λ (c : Bool). pick c (Live (get_or deadlines (16 * p + i) 0)) Nothing) (on_begun i p b r.0 r.1) in
               let lives : bit live' (16 * q + i) ≡ true = live_at (16 * q + i) (omega arith) ∙ came_in i b q h (bit on) false l ∙ r.1 in
               let ends : get_or deadlines' (16 * q + i) 0 ≡ get_or deadlines (16 * p + i) 0 = ends_at (16 * q + i) (omega arith) ∙ came_in i b q h (λ q. get_or deadlines q 0) 0 l in
-              ap (λ (c : Bool). pick {X = Place} c (record { job = job_at after i p }) no_job) (lt-ltb q (length (going_by on i)) l)
-              ∙ ap (λ (j : Job). record { job = j }) (job ∙ sym (ap₂ (λ (c : Bool) (d : ℕ). pick c (Live d) Nothing) lives ends))
+              ap (λ (c : Bool). pick {X = Job} c (job_at after i p) no_job) (lt-ltb q (length (going_by on i)) l)
+              ∙ ap (λ (j : Job). j) (job ∙ sym (ap₂ (λ (c : Bool) (d : ℕ). pick c (Live d) Nothing) lives ends))
 
-          out_of_it : length (going_by on i) ≤ q → pick {X = Place} (ltb q (length (going_by on i))) (record { job = job_at after i p }) no_job ≡ place_by live' deadlines' i q
+          out_of_it : length (going_by on i) ≤ q → pick {X = Job} (ltb q (length (going_by on i))) (job_at after i p) no_job ≡ place_by live' deadlines' i q
           out_of_it l =
               let lives : bit live' (16 * q + i) ≡ false =
               live_at (16 * q + i) (omega arith)
               ∙ came_out i b q h (bit on) false l (λ e z. off_when (bit on (16 * q + i)) (λ o. clash (on_begun i q b h o) z)) in
-              ap (λ (c : Bool). pick {X = Place} c (record { job = job_at after i p }) no_job) (le-ltb q (length (going_by on i)) l)
-              ∙ ap (λ (c : Bool). record { job = pick c (Live (get_or deadlines' (16 * q + i) 0)) Nothing }) (sym lives)
+              ap (λ (c : Bool). pick {X = Job} c (job_at after i p) no_job) (le-ltb q (length (going_by on i)) l)
+              ∙ ap (λ (c : Bool). pick c (Live (get_or deadlines' (16 * q + i) 0)) Nothing) (sym lives)
 
       tasks_are : (ended after).tasks ≡ tasks_by live' deadlines' waits
       unfolding ended
-      tasks_are = row_ext 16 idle _ _ (λ i b. ap₂ (λ (w : ℕ) (js : List Place). record { wait = w; jobs = js }) (rows_wait clock phase begun deadlines waits rest work i b) (row_ext 4 no_job _ _ (λ q h. job_is i b q h)))
+      tasks_are = row_ext 16 idle _ _ (λ i b. ap₂ (λ (w : ℕ) (js : List Job). record { wait = w; jobs = js }) (rows_wait clock phase begun deadlines waits rest work i b) (row_ext 4 no_job _ _ (λ q h. job_is i b q h)))
 
       rest_is : (ended after).remaining ≡ rest'
       unfolding ended remaining rows_after

@@ -10,7 +10,6 @@ use Rattle.machine.specs.declared.Phase.{Phase}
 use Rattle.machine.specs.declared.Phase.TheVariants.{Running, Stopped}
 use Rattle.machine.specs.declared.Job.{Job}
 use Rattle.machine.specs.declared.Job.TheVariants.{Nothing, Live}
-use Rattle.machine.specs.declared.Place.{Place}
 use Rattle.machine.specs.declared.TaskState.{TaskState}
 use Rattle.machine.specs.declared.State.{State}
 use Rattle.machine.specs.declared.Reply.{Reply}
@@ -24,11 +23,11 @@ no_task = record { wait = 0; jobs = [] }
 
 -- the job at slot s
 abbrev pub job_in : List TaskState → ℕ → Job
-job_in states s = (get_or (get_or states (s % 16) no_task).jobs (s / 16) no_job).job
+job_in states s = (get_or (get_or states (s % 16) no_task).jobs (s / 16) no_job)
 
 -- place p of task i, by the set of live slots and their deadlines
-abbrev pub place_by : ℕ → List ℕ → ℕ → ℕ → Place
-place_by live deadlines i p = record { job = pick (bit live (16 * p + i)) (Live (get_or deadlines (16 * p + i) 0)) Nothing }
+abbrev pub place_by : ℕ → List ℕ → ℕ → ℕ → Job
+place_by live deadlines i p = pick (bit live (16 * p + i)) (Live (get_or deadlines (16 * p + i) 0)) Nothing
 
 -- the tasks of a state after a tick: each wait still has the one that this tick takes
 abbrev pub tasks_by : ℕ → List ℕ → List ℕ → List TaskState

@@ -6,7 +6,7 @@ ghost use Rattle.machine.specs.declared.Job.TheVariants.{Nothing, Live};
 ghost use Rattle.machine.specs.States.{is_live, deadline_of, ticks_left};
 ghost use Rattle.machine.specs.Rows.{no_task, job_in, place_by, tasks_by};
 
-use crate::{Job, Place, TaskState};
+use crate::{Job, TaskState};
 use graph::set::Members;
 use std::array;
 
@@ -35,7 +35,7 @@ pub(crate) fn live_set(states: [TaskState; 16]) -> u64
 {
     let mut set = 0;
     for s in 0..64 {
-        if states[s % 16].jobs[s / 16].job.is_live() {
+        if states[s % 16].jobs[s / 16].is_live() {
             set |= 1u64 << s;
         }
     }
@@ -62,7 +62,7 @@ pub(crate) fn deadlines_of(states: [TaskState; 16], set: u64) -> [u32; 64]
 {
     let mut deadlines = [0u32; 64];
     for s in Members::of(set) {
-        deadlines[s] = states[s % 16].jobs[s / 16].job.deadline();
+        deadlines[s] = states[s % 16].jobs[s / 16].deadline();
     }
     deadlines
 }
@@ -86,19 +86,18 @@ pub(crate) fn left_of(deadlines: &[u32; 64], clock: u32, set: u64) -> [u32; 64]
 }
 
 // A place, put together.
-fn place_of(live: bool, deadline: u32) -> Place
-    ensures { result ≡ record { job = pick live (Live deadline) Nothing } }
+fn place_of(live: bool, deadline: u32) -> Job
+    ensures { result ≡ pick live (Live deadline) Nothing }
 {
-    let job = if live {
+    if live {
         Job::Live { deadline }
     } else {
         Job::Nothing
-    };
-    Place { job }
+    }
 }
 
 // A task's four places.
-fn places(live: u64, deadlines: &[u32; 64], i: usize) -> [Place; 4]
+fn places(live: u64, deadlines: &[u32; 64], i: usize) -> [Job; 4]
     requires { i < 16 }
     ensures { result ≡ row 4 (place_by live deadlines.now i) }
 {

@@ -2,7 +2,7 @@
 ghost use Rattle.std.specs.Prelude.{◌≡◌};
 ghost use Rattle.machine.specs.States.{zeros, unopened, opening};
 
-use crate::{Job, Opened, Phase, Place, Reply, State, TaskState};
+use crate::{Job, Opened, Phase, Reply, State, TaskState};
 use table::Outcome;
 
 // A state of zeros but for its clock and its phase.
@@ -11,7 +11,7 @@ pub fn zeros(clock: u32, phase: Phase) -> State
 {
     let idle = TaskState {
         wait: 0,
-        jobs: [Place { job: Job::Nothing }; 4],
+        jobs: [Job::Nothing; 4],
     };
     State {
         clock,

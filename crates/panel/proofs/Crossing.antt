@@ -16,7 +16,6 @@ use Rattle.machine.specs.declared.Phase.{Phase}
 use Rattle.machine.specs.declared.Phase.TheVariants.{Running, Stopped}
 use Rattle.machine.specs.declared.Job.{Job}
 use Rattle.machine.specs.declared.Job.TheVariants.{Nothing, Live}
-use Rattle.machine.specs.declared.Place.{Place}
 use Rattle.machine.specs.declared.TaskState.{TaskState}
 use Rattle.machine.specs.declared.State.{State}
 use Rattle.machine.specs.States.{no_job, idle, task_of, deadline_of}
@@ -33,7 +32,7 @@ unfolding phase_of stopped_of at_of
 phase_back Running = refl
 phase_back (Stopped k) = refl
 
-place_back : (j : Job) → place_of (live_of j) (deadline_of j) ≡ record { job = j }
+place_back : (j : Job) → place_of (live_of j) (deadline_of j) ≡ j
 unfolding place_of live_of deadline_of
 place_back Nothing = refl
 place_back (Live d) = refl
@@ -41,8 +40,8 @@ place_back (Live d) = refl
 jobs_back : (a : TaskState) → length a.jobs ≡ 4 → jobs_of (face_jobs a) ≡ a
 unfolding jobs_of face_jobs live_flags deadlines_of
 jobs_back a n =
-    ap (λ (l : List Place). record { wait = a.wait; jobs = l })
-    (row_same 4 no_job _ a.jobs n (λ p b. ap₂ place_of (row_at 4 _ p 0 b) (row_at 4 _ p 0 b) ∙ place_back (get_or a.jobs p no_job).job))
+    ap (λ (l : List Job). record { wait = a.wait; jobs = l })
+    (row_same 4 no_job _ a.jobs n (λ p b. ap₂ place_of (row_at 4 _ p 0 b) (row_at 4 _ p 0 b) ∙ place_back (get_or a.jobs p no_job)))
 
 module _ (st : State) where
   jobs_there : (i : ℕ) → i < 16 → jobs_at (face_of st) i ≡ face_jobs (task_of st i)
@@ -73,7 +72,7 @@ place_proper (Live d) = refl
 
 jobs_proper : (a : TaskState) → proper_jobs (face_jobs a) ≡ true
 unfolding proper_jobs face_jobs live_flags deadlines_of
-jobs_proper a = all_of 4 _ (λ p b. ap₂ proper_place (row_at 4 _ p 0 b) (row_at 4 _ p 0 b) ∙ place_proper (get_or a.jobs p no_job).job)
+jobs_proper a = all_of 4 _ (λ p b. ap₂ proper_place (row_at 4 _ p 0 b) (row_at 4 _ p 0 b) ∙ place_proper (get_or a.jobs p no_job))
 
 there_proper : (st : State) → proper_phase (face_of st).stopped (face_of st).at ≡ true
 unfolding face_of
@@ -121,7 +120,7 @@ at_there s k h = go (eqb s 0) refl
     go true e = sym (eqb-true k 0 (rw e at h))
     go false e = refl
 
-live_there : (l d : ℕ) → proper_place l d ≡ true → live_of (place_of l d).job ≡ l
+live_there : (l d : ℕ) → proper_place l d ≡ true → live_of (place_of l d) ≡ l
 unfolding proper_place place_of live_of
 live_there l d h = go (eqb l 0) refl
   where
@@ -129,7 +128,7 @@ live_there l d h = go (eqb l 0) refl
     go true e = sym (eqb-true l 0 e)
     go false e = sym (eqb-true l 1 (rw e at h))
 
-deadline_there : (l d : ℕ) → proper_place l d ≡ true → deadline_of (place_of l d).job ≡ d
+deadline_there : (l d : ℕ) → proper_place l d ≡ true → deadline_of (place_of l d) ≡ d
 unfolding proper_place place_of deadline_of
 deadline_there l d h = go (eqb l 0) refl
   where
@@ -148,11 +147,11 @@ module _ (a : FaceJobs) (h : proper_jobs a ≡ true) where
 
   same_deadlines : length a.deadline ≡ 4 → deadlines_of (jobs_of a).jobs ≡ a.deadline
   unfolding deadlines_of
-  same_deadlines n = row_same 4 0 _ a.deadline n (λ p b. ap (λ (x : Place). deadline_of x.job) (place_there p b) ∙ deadline_there _ _ (proper_place_lem p b))
+  same_deadlines n = row_same 4 0 _ a.deadline n (λ p b. ap (λ (x : Job). deadline_of x) (place_there p b) ∙ deadline_there _ _ (proper_place_lem p b))
 
   same_lives : length a.live ≡ 4 → live_flags (jobs_of a).jobs ≡ a.live
   unfolding live_flags
-  same_lives n = row_same 4 0 _ a.live n (λ p b. ap (λ (x : Place). live_of x.job) (place_there p b) ∙ live_there _ _ (proper_place_lem p b))
+  same_lives n = row_same 4 0 _ a.live n (λ p b. ap (λ (x : Job). live_of x) (place_there p b) ∙ live_there _ _ (proper_place_lem p b))
 
   jobs_there_back : length a.deadline ≡ 4 → length a.live ≡ 4 → face_jobs (jobs_of a) ≡ a
   unfolding face_jobs jobs_of

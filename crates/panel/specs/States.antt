@@ -6,7 +6,6 @@ use Rattle.machine.specs.declared.Phase.{Phase}
 use Rattle.machine.specs.declared.Phase.TheVariants.{Running, Stopped}
 use Rattle.machine.specs.declared.Job.{Job}
 use Rattle.machine.specs.declared.Job.TheVariants.{Nothing, Live}
-use Rattle.machine.specs.declared.Place.{Place}
 use Rattle.machine.specs.declared.TaskState.{TaskState}
 use Rattle.machine.specs.declared.State.{State}
 use Rattle.machine.specs.States.{no_job, deadline_of, task_of}
@@ -27,11 +26,11 @@ unfoldable pub live_of : Job → ℕ
 live_of Nothing = 0
 live_of (Live d) = 1
 
-unfoldable pub live_flags : List Place → List ℕ
-live_flags places = row 4 (λ p. live_of (get_or places p no_job).job)
+unfoldable pub live_flags : List Job → List ℕ
+live_flags places = row 4 (λ p. live_of (get_or places p no_job))
 
-unfoldable pub deadlines_of : List Place → List ℕ
-deadlines_of places = row 4 (λ p. deadline_of (get_or places p no_job).job)
+unfoldable pub deadlines_of : List Job → List ℕ
+deadlines_of places = row 4 (λ p. deadline_of (get_or places p no_job))
 
 -- "The task keeps its wait apart from its jobs."
 unfoldable pub face_jobs : TaskState → FaceJobs
@@ -59,8 +58,8 @@ jobs_at s i = get_or s.tasks i no_face_jobs
 unfoldable pub phase_of : ℕ → ℕ → Phase
 phase_of stopped at = pick (eqb stopped 0) Running (Stopped at)
 
-unfoldable pub place_of : ℕ → ℕ → Place
-place_of live deadline = record { job = pick (eqb live 0) Nothing (Live deadline) }
+unfoldable pub place_of : ℕ → ℕ → Job
+place_of live deadline = pick (eqb live 0) Nothing (Live deadline)
 
 unfoldable pub jobs_of : FaceJobs → TaskState
 jobs_of a = record { wait = a.wait; jobs = row 4 (λ p. place_of (get_or a.live p 0) (get_or a.deadline p 0)) }

@@ -4,7 +4,7 @@ ghost use Rattle.graph.specs.Words.{all};
 ghost use Rattle.panel.specs.States.{stopped_of, at_of, face_jobs, face_of, jobs_at, phase_of, place_of, jobs_of, state_of, proper_phase, proper_place, proper_jobs, is_proper};
 
 use crate::{FaceJobs, FaceState};
-use machine::{Job, Phase, Place, State, TaskState};
+use machine::{Job, Phase, State, TaskState};
 use std::array;
 
 // 1 for a stopped state.
@@ -31,8 +31,8 @@ impl From<TaskState> for FaceJobs {
     fn from(a: TaskState) -> FaceJobs {
         FaceJobs {
             wait: a.wait,
-            deadline: array::from_fn(|p| a.jobs[p].job.deadline()),
-            live: array::from_fn(|p| u8::from(a.jobs[p].job.is_live())),
+            deadline: array::from_fn(|p| a.jobs[p].deadline()),
+            live: array::from_fn(|p| u8::from(a.jobs[p].is_live())),
         }
     }
 }
@@ -66,15 +66,14 @@ fn phase_of(stopped: u8, at: u8) -> Phase
 }
 
 // The place that crossed.
-fn place_of(live: u8, deadline: u32) -> Place
+fn place_of(live: u8, deadline: u32) -> Job
     ensures { result ≡ place_of live deadline }
 {
-    let job = if live == 0 {
+    if live == 0 {
         Job::Nothing
     } else {
         Job::Live { deadline }
-    };
-    Place { job }
+    }
 }
 
 // The task that crossed.

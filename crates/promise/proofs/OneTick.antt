@@ -15,7 +15,7 @@ use Rattle.graph.proofs.Sets.{bit_set}
 use Rattle.table.specs.declared.Table.{Table}
 use Rattle.table.specs.Memory.{task, D, T, cost}
 use Rattle.table.specs.Good.{GoodTable}
-use Rattle.machine.specs.declared.Place.{Place}
+use Rattle.machine.specs.declared.Job.{Job}
 use Rattle.machine.specs.declared.TaskState.{TaskState}
 use Rattle.machine.specs.declared.State.{State}
 use Rattle.machine.specs.States.{no_job, idle, task_of, job_at, is_live, live, wait, deadline, jobs_of, remaining, left}
@@ -41,7 +41,7 @@ use Rattle.promise.proofs.Counting as Counting
 past_places : (t : Table) (st : State) (named i p : ℕ) → i < 16 → 4 ≤ p → live (released t st named) i p ≡ false
 unfolding released live job_at task_of is_live no_job
 past_places t st named i p b h =
-    ap (λ (x : TaskState). is_live (get_or x.jobs p no_job).job) (row_at 16 _ i idle b) ∙ ap (λ (x : Place). is_live x.job) (row_past 4 _ p no_job h)
+    ap (λ (x : TaskState). is_live (get_or x.jobs p no_job)) (row_at 16 _ i idle b) ∙ ap (λ (x : Job). is_live x) (row_past 4 _ p no_job h)
 
 module _ (t : Table) (good : GoodTable t) (st : State) (sound : Sound t st) (named : ℕ)
     (tasks : (i : ℕ) → bit named i ≡ true → i < t.n) (free : (i : ℕ) → bit named i ≡ true → wait st i ≡ 0)

@@ -13,7 +13,6 @@ use Rattle.machine.specs.declared.Phase.TheVariants.{Running, Stopped}
 use Rattle.machine.specs.declared.TaskState.{TaskState}
 use Rattle.machine.specs.declared.Job.{Job}
 use Rattle.machine.specs.declared.Job.TheVariants.{Nothing, Live}
-use Rattle.machine.specs.declared.Place.{Place}
 use Rattle.machine.specs.declared.Answer.{Answer}
 use Rattle.machine.specs.declared.Reply.{Reply}
 use Rattle.machine.specs.declared.Triple.{Triple}
@@ -62,10 +61,10 @@ unfolding job_code job_back
 job_again Nothing = refl
 job_again (Live d) = refl
 
-place_discrete : Discrete Place
+place_discrete : Discrete Job
 place_discrete =
-    by_code (λ p. job_code p.job) (λ c. record { job = job_back c })
-    (λ p. ap (λ (j : Job). record { job = j }) (job_again p.job))
+    by_code (λ p. job_code p) (λ c. job_back c)
+    (λ p. ap (λ (j : Job). j) (job_again p))
     ℕ_discrete
 
 -- A TASK: its wait and its places

@@ -14,4 +14,4 @@ returns c =
     let st = c.args.st in
     let n : length st.tasks ≡ 16 = search (length_mapped, rules) in
     c.live_set.ensures
-    ∙ set_ext 64 _ _ (λ s b. ap (λ (x : TaskState). is_live (get_or x.jobs (s / 16) no_job).job) (inside st.tasks (s % 16) no_task idle (omega arith)))
+    ∙ set_ext 64 _ _ (λ s b. ap (λ (x : TaskState). is_live (get_or x.jobs (s / 16) no_job)) (inside st.tasks (s % 16) no_task idle (omega arith)))
