@@ -42,9 +42,9 @@ fn task_line<const N: usize>(page: &mut Page<N>, k: usize, f: Figures)
 }
 
 // The lines of a table's tasks.
-fn task_lines<const N: usize>(page: &mut Page<N>, f: &Findings)
-    requires { Printable f.now }
-    ensures { Adds page.old page.new (in_order f.now.n (λ k. task_line k (figures_in f.now k))) }
+fn task_lines<const N: usize>(page: &mut Page<N>, f: Findings)
+    requires { Printable f }
+    ensures { Adds page.old page.new (in_order f.n (λ k. task_line k (figures_in f k))) }
 {
     for k in 0..usize::from(f.n) {
         let (vol, len, due) = (f.vols[k], f.lens[k], f.dues[k]);
@@ -103,9 +103,9 @@ fn bad_line<const N: usize>(page: &mut Page<N>, o: Outcome)
 }
 
 // The lines of a table.
-fn table_lines<const N: usize>(page: &mut Page<N>, f: &Findings)
-    requires { Printable f.now }
-    ensures { Adds page.old page.new (lines_on f.now) }
+fn table_lines<const N: usize>(page: &mut Page<N>, f: Findings)
+    requires { Printable f }
+    ensures { Adds page.old page.new (lines_on f) }
 {
     head_line(page, f.m, f.n);
     task_lines(page, f);
@@ -113,9 +113,9 @@ fn table_lines<const N: usize>(page: &mut Page<N>, f: &Findings)
 }
 
 // The lines of a file.
-pub(crate) fn lines_of<const N: usize>(page: &mut Page<N>, f: &Findings)
-    requires { f.now.outcome ≡ Read → Printable f.now }
-    ensures { Adds page.old page.new (lines_of f.now) }
+pub(crate) fn lines_of<const N: usize>(page: &mut Page<N>, f: Findings)
+    requires { f.outcome ≡ Read → Printable f }
+    ensures { Adds page.old page.new (lines_of f) }
 {
     let o = f.outcome;
     let Outcome::Read = o else {

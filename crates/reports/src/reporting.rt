@@ -9,9 +9,9 @@ use text::Page;
 use verdict::Findings;
 
 // The text of what was found, and zeros behind it.
-fn text_of(f: &Findings) -> Report
-    requires { f.now.outcome ≡ Read → Printable f.now }
-    ensures { result ≡ reported (lines_of f.now) }
+fn text_of(f: Findings) -> Report
+    requires { f.outcome ≡ Read → Printable f }
+    ensures { result ≡ reported (lines_of f) }
 {
     let mut page = Page::new();
     printing::lines_of(&mut page, f);
@@ -19,9 +19,9 @@ fn text_of(f: &Findings) -> Report
 }
 
 // The text of what was found at the front of a caller's buffer, if it fits there; its length. The page is as small as the longest report.
-fn text_into(f: &Findings, out: &mut [u8]) -> usize
-    requires { f.now.outcome ≡ Read → Printable f.now }
-    ensures { (result ≡ length (lines_of f.now)) × (out.new ≡ report_into (lines_of f.now) out.old) }
+fn text_into(f: Findings, out: &mut [u8]) -> usize
+    requires { f.outcome ≡ Read → Printable f }
+    ensures { (result ≡ length (lines_of f)) × (out.new ≡ report_into (lines_of f) out.old) }
 {
     let mut page: Page<1366> = Page::new();
     printing::lines_of(&mut page, f);
@@ -36,26 +36,26 @@ fn text_into(f: &Findings, out: &mut [u8]) -> usize
 pub fn report_of(bytes: &[u8]) -> Report
     ensures { result ≡ reported (report bytes.now) }
 {
-    text_of(&verdict::findings_of(bytes))
+    text_of(verdict::findings_of(bytes))
 }
 
 // The report on a file at the front of a caller's buffer, if it fits there; its length.
 pub fn report_into(bytes: &[u8], out: &mut [u8]) -> usize
     ensures { (result ≡ length (report bytes.now)) × (out.new ≡ report_into (report bytes.now) out.old) }
 {
-    text_into(&verdict::findings_of(bytes), out)
+    text_into(verdict::findings_of(bytes), out)
 }
 
 // The sharp report on a file.
 pub fn sharp_report_of(bytes: &[u8]) -> Report
     ensures { result ≡ reported (sharp_report bytes.now) }
 {
-    text_of(&sharp::sharp_findings_of(bytes))
+    text_of(sharp::sharp_findings_of(bytes))
 }
 
 // The sharp report on a file at the front of a caller's buffer.
 pub fn sharp_report_into(bytes: &[u8], out: &mut [u8]) -> usize
     ensures { (result ≡ length (sharp_report bytes.now)) × (out.new ≡ report_into (sharp_report bytes.now) out.old) }
 {
-    text_into(&sharp::sharp_findings_of(bytes), out)
+    text_into(sharp::sharp_findings_of(bytes), out)
 }

@@ -19,11 +19,11 @@ loop-k-preserved g c =
     let k = c.loop-k.k in
     let z = c.margin_from in
     let f : SFits w64 z.result = record { sfits = z.type_inv } in
-    let x = found_figures c.args.f.now c.requires k (omega arith) z.result z.ensures _ (to_z-of_z f) in
-    one_more k (λ i. task_line i (figures_in c.args.f.now i)) c.loop-k.invariant (same c.task_line.ensures (ap (task_line k) x))
+    let x = found_figures c.args.f c.requires k (omega arith) z.result z.ensures _ (to_z-of_z f) in
+    one_more k (λ i. task_line i (figures_in c.args.f i)) c.loop-k.invariant (same c.task_line.ensures (ap (task_line k) x))
 
 pub returns : goal.returns
 returns g c =
     let l = c.loop-k in
-    let e : l.k ≡ c.args.f.now.n = omega arith in
-    same l.invariant (ap (λ (k : ℕ). in_order k (λ i. task_line i (figures_in c.args.f.now i))) e)
+    let e : l.k ≡ c.args.f.n = omega arith in
+    same l.invariant (ap (λ (k : ℕ). in_order k (λ i. task_line i (figures_in c.args.f i))) e)

@@ -6,4 +6,4 @@ use Rattle.reports.specs.Found.{figures_in}
 use Rattle.reports.proofs.printing.task_lines.Given as goal
 
 abbrev pub invariant-loop-k : goal.invariant-loop-k
-invariant-loop-k g l = Adds l.initial.page l.page (in_order l.k (λ i. task_line i (figures_in l.f i)))
+invariant-loop-k g l = Adds l.initial.page l.page (in_order l.k (λ i. task_line i (figures_in l.fn.f i)))

@@ -14,7 +14,7 @@ lines_of-requires c = (lit< tt, c.requires)
 pub returns-then-words-out : goal.returns-then-words-out
 returns-then-words-out c =
     let words = c.text-words.result.now in
-    let e : words ≡ lines_of c.args.f.now = c.text-words.ensures ∙ page_text _ c.requires c.new-page.ensures c.lines_of.ensures in (
+    let e : words ≡ lines_of c.args.f = c.text-words.ensures ∙ page_text _ c.requires c.new-page.ensures c.lines_of.ensures in (
       ap length e,
       ap₂ (λ (a b : List ℕ). a ++ drop (length b) c.args.out.now) (c.copy_from_slice.ensures.after ∙ e) e ∙ into_fits _ _ (omega (arith, ap length e)),
     )
@@ -22,5 +22,5 @@ returns-then-words-out c =
 pub returns-else-words-out : goal.returns-else-words-out
 returns-else-words-out c =
     let words = c.text-words.result.now in
-    let e : words ≡ lines_of c.args.f.now = c.text-words.ensures ∙ page_text _ c.requires c.new-page.ensures c.lines_of.ensures in
+    let e : words ≡ lines_of c.args.f = c.text-words.ensures ∙ page_text _ c.requires c.new-page.ensures c.lines_of.ensures in
     (ap length e, into_short _ _ (omega (arith, ap length e)))
