@@ -13,8 +13,8 @@ use crate::fields::Row;
 use machine::Chosen;
 
 // Whether a triple is a vertex in its slot's set.
-fn is_in(sets: [u16; 64], i: usize, p: usize, u: usize) -> bool
-    ensures { result ≡ in_set sets i p u }
+fn is_in(sets: &[u16; 64], i: usize, p: usize, u: usize) -> bool
+    ensures { result ≡ in_set sets.now i p u }
 {
     if 16 <= i || 4 <= p || 16 <= u {
         return false;
@@ -23,8 +23,8 @@ fn is_in(sets: [u16; 64], i: usize, p: usize, u: usize) -> bool
 }
 
 // Whether each listed triple is a vertex in its slot's set.
-pub(crate) fn are_in(sets: [u16; 64], row: &Row) -> bool
-    ensures { result ≡ all_in sets row.now.bytes.now row.now.at }
+pub(crate) fn are_in(sets: &[u16; 64], row: &Row) -> bool
+    ensures { result ≡ all_in sets.now row.now.bytes.now row.now.at }
 {
     for j in 0..row.count() {
         if !is_in(sets, row.task(j), row.age(j), row.vertex(j)) {
@@ -43,10 +43,10 @@ fn total(sets: &[u16]) -> usize
 }
 
 // 45: whether `count` is below the smaller of m and the vertices of all sets, which are counted only where m does not decide.
-pub(crate) fn is_few(count: usize, m: u8, sets: [u16; 64]) -> bool
-    ensures { result ≡ ltb count (min m (sum_by ones sets)) }
+pub(crate) fn is_few(count: usize, m: u8, sets: &[u16; 64]) -> bool
+    ensures { result ≡ ltb count (min m (sum_by ones sets.now)) }
 {
-    count < usize::from(m) && count < total(&sets)
+    count < usize::from(m) && count < total(sets)
 }
 
 // A set without u.
@@ -58,11 +58,11 @@ fn taken_out(set: u16, u: usize) -> u16
 }
 
 // The sets without what is listed.
-fn unlisted(sets: [u16; 64], row: &Row) -> [u16; 64]
+fn unlisted(sets: &[u16; 64], row: &Row) -> [u16; 64]
     requires { AreVertices row.now.bytes.now row.now.at }
-    ensures { Without sets (listed row.now.bytes.now row.now.at) result }
+    ensures { Without sets.now (listed row.now.bytes.now row.now.at) result }
 {
-    let mut rest = sets;
+    let mut rest = *sets;
     for j in 0..row.count() {
         let slot = row.slot(j);
         rest[slot] = taken_out(rest[slot], row.vertex(j));
@@ -71,9 +71,9 @@ fn unlisted(sets: [u16; 64], row: &Row) -> [u16; 64]
 }
 
 // The most ticks left of a listed vertex.
-fn most_left(ticks: [u32; 64], row: &Row) -> u32
+fn most_left(ticks: &[u32; 64], row: &Row) -> u32
     requires { AreVertices row.now.bytes.now row.now.at }
-    ensures { result ≡ largest (row_count row.now.bytes.now row.now.at) (λ j. get_or ticks (row_slot row.now.bytes.now row.now.at j) 0) }
+    ensures { result ≡ largest (row_count row.now.bytes.now row.now.at) (λ j. get_or ticks.now (row_slot row.now.bytes.now row.now.at j) 0) }
 {
     let mut most: u32 = 0;
     for j in 0..row.count() {
@@ -83,10 +83,10 @@ fn most_left(ticks: [u32; 64], row: &Row) -> u32
 }
 
 // Whether a slot with a vertex left in its set has fewer ticks left than `most`.
-fn is_sooner(rest: [u16; 64], ticks: [u32; 64], most: u32) -> bool
-    ensures { result ≡ not (all 64 (λ k. eqb (get_or rest k 0) 0 || leb most (get_or ticks k 0))) }
+fn is_sooner(rest: &[u16; 64], ticks: &[u32; 64], most: u32) -> bool
+    ensures { result ≡ not (all 64 (λ k. eqb (get_or rest.now k 0) 0 || leb most (get_or ticks.now k 0))) }
 {
-    for k in 0..64usize {
+    for k in 0..64 {
         if rest[k] != 0 && ticks[k] < most {
             return true;
         }
@@ -95,11 +95,11 @@ fn is_sooner(rest: [u16; 64], ticks: [u32; 64], most: u32) -> bool
 }
 
 // 46, given the available vertices and the ticks left of each slot; each listed vertex is available.
-pub(crate) fn is_passing_over(sets: [u16; 64], ticks: [u32; 64], row: &Row) -> bool
-    requires { all_in sets row.now.bytes.now row.now.at ≡ true }
-    ensures { (t : Table) (st : State) → sets ≡ available_sets t st → ticks ≡ row_of 64 (left_at st) → result ≡ passes_over t st (listed row.now.bytes.now row.now.at) }
+pub(crate) fn is_passing_over(sets: &[u16; 64], ticks: &[u32; 64], row: &Row) -> bool
+    requires { all_in sets.now row.now.bytes.now row.now.at ≡ true }
+    ensures { (t : Table) (st : State) → sets.now ≡ available_sets t st → ticks.now ≡ row_of 64 (left_at st) → result ≡ passes_over t st (listed row.now.bytes.now row.now.at) }
 {
-    is_sooner(unlisted(sets, row), ticks, most_left(ticks, row))
+    is_sooner(&unlisted(sets, row), ticks, most_left(ticks, row))
 }
 
 // What the row lists, as the machine's choice.

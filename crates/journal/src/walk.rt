@@ -59,13 +59,13 @@ fn checked_row<'a>(t: Table, st: State, bytes: &'a [u8], at: usize) -> Result<Ro
 fn check_choice(m: u8, offer: Offer, row: &Row) -> Result<(), Fault>
     ensures { (t : Table) (st : State) (set : ℕ) → m ≡ t.m → offer ≡ offered t st set → outcome result ≡ choice_fault t (released t st set) row.now.bytes.now row.now.at }
 {
-    if !lists::are_in(offer.sets, row) {
+    if !lists::are_in(&offer.sets, row) {
         return Err(Fault::NotAvailable);
     }
-    if lists::is_few(row.count(), m, offer.sets) {
+    if lists::is_few(row.count(), m, &offer.sets) {
         return Err(Fault::TooFew);
     }
-    if lists::is_passing_over(offer.sets, offer.left, row) {
+    if lists::is_passing_over(&offer.sets, &offer.left, row) {
         return Err(Fault::PassesOver);
     }
     Ok(())
@@ -105,9 +105,8 @@ fn judge_rows(t: Table, bytes: &[u8], end: usize, st: State) -> Progress
         let row = match legal_row(t, state, bytes, next) {
             Ok(row) => row,
             Err(fault) => {
-                let number = fault.number();
                 return Progress {
-                    number,
+                    number: fault.number(),
                     next,
                     rows,
                     state,

@@ -105,11 +105,11 @@ pub(crate) fn choose(m: u8, begun: u64, given: [u16; 64], ticks: &[u32; 64]) -> 
 }
 
 // Steps 2 and 3: the machine's own choice, once step 1 is made.
-pub(crate) fn own_choice(t: Table, rows: &Rows) -> Chosen
+pub(crate) fn own_choice(t: Table, rows: &Rows, remaining: &[u32; 1024]) -> Chosen
     requires { t.m ≤ 8 }
-    ensures { (st : State) → st.clock ≡ rows.now.clock → st.remaining ≡ rows.now.remaining → ((i p : ℕ) → i < 16 → p < 4 → bit rows.now.live (16 * p + i) ≡ live st i p) → ((i p : ℕ) → i < 16 → p < 4 → live st i p ≡ true → slice_index rows.now.deadlines (16 * p + i) ≡ deadline st i p) → listed result ≡ own_choice t st }
+    ensures { (st : State) → st.clock ≡ rows.now.clock → st.remaining ≡ remaining.now → ((i p : ℕ) → i < 16 → p < 4 → bit rows.now.live (16 * p + i) ≡ live st i p) → ((i p : ℕ) → i < 16 → p < 4 → live st i p ≡ true → slice_index rows.now.deadlines (16 * p + i) ≡ deadline st i p) → listed result ≡ own_choice t st }
 {
-    let sets = sets_of(&t, rows.live, &rows.remaining);
+    let sets = sets_of(&t, rows.live, remaining);
     choose(t.m, rows.live, sets, &rows.ticks_left())
 }
 

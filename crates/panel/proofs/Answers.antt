@@ -1,13 +1,15 @@
 -- An answer put together from what the functions below the C face gave is the one that its definition gives.
 use mathlib.Core.Path.{◌≡◌, refl}
+use mathlib.Core.Bool.{Bool, true, false}
 use mathlib.Core.List.{List}
 use Prim.Native.Nat.{ℕ}
 use lib.IntN.{ℤ}
 use lib.ListN.{replicate}
 use Rattle.panel.specs.declared.FaceTable.{FaceTable}
 use Rattle.panel.specs.Tables.{table_face}
-use Rattle.graph.specs.Words.{pick}
-use Rattle.panel.specs.Answers.{read_answer, write_answer, verdict_face, ruling_face, ruling_answer}
+use Rattle.std.specs.Int.{from_bool}
+use Rattle.graph.specs.Words.{pick, flag}
+use Rattle.panel.specs.Answers.{read_answer, write_answer, verdict_face, ruling_face}
 use Rattle.table.specs.declared.Loaded.{Loaded}
 use Rattle.table.specs.declared.Table.{Table}
 use Rattle.table.specs.declared.Written.{Written}
@@ -16,7 +18,10 @@ use Rattle.table.specs.Reading.{read}
 use Rattle.table.specs.Writing.{writing}
 use Rattle.verdict.specs.declared.Verdict.{Verdict}
 use Rattle.journal.specs.declared.Ruling.{Ruling}
-use Rattle.journal.specs.Judging.{judge}
+use Rattle.machine.specs.declared.Job.{Job}
+use Rattle.machine.specs.declared.Job.TheVariants.{Nothing, Live}
+use Rattle.machine.specs.States.{is_live}
+use Rattle.panel.specs.States.{live_of}
 
 pub answers_read : (s : List ℕ) (l : Loaded) (n p : ℕ) (f : FaceTable) → l ≡ read s → n ≡ number l.outcome → p ≡ place l.outcome → f ≡ table_face l.table
     → read_answer s ≡ record { place = p; number = n; pad = replicate 3 0; table = f }
@@ -35,7 +40,22 @@ pub faces_verdict : (v : Verdict) (z : ℤ) → z ≡ v.margin
 unfolding verdict_face
 faces_verdict v z e = rw e refl
 
-pub answers_ruling : (s j : List ℕ) (r : Ruling) (m : ℕ) → r ≡ judge s j → m ≡ pick r.missed 1 0
-    → ruling_answer s j ≡ record { place = r.place; row = r.row; rows = r.rows; number = r.number; missed = m; pad = replicate 6 0 }
-unfolding ruling_answer ruling_face
-answers_ruling s j r m is-ruling is-missed = rw is-missed (rw is-ruling refl)
+pub faces_ruling : (r : Ruling) (m : ℕ) → m ≡ pick r.missed 1 0
+    → record { place = r.place; row = r.row; rows = r.rows; number = r.number; missed = m; pad = replicate 6 0 } ≡ ruling_face r
+unfolding ruling_face
+faces_ruling r m e = rw e refl
+
+-- ---- what crosses as a byte, 0 or 1
+pub true_byte : (b : Bool) → from_bool b ≡ pick b 1 0
+true_byte true = refl
+true_byte false = refl
+
+pub flag_byte : (b : Bool) → from_bool b ≡ flag b
+unfolding flag
+flag_byte true = refl
+flag_byte false = refl
+
+pub live_byte : (j : Job) → from_bool (is_live j) ≡ live_of j
+unfolding is_live live_of
+live_byte Nothing = refl
+live_byte (Live d) = refl

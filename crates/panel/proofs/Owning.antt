@@ -1,7 +1,7 @@
 -- What owning a face state tells of the lengths of its rows: a struct that is handed over has arrays of their declared lengths, and so has each struct in
 -- its arrays.
 use mathlib.Core.Path.{◌≡◌}
-use mathlib.Core.List.{List, [], ◌∷◌, map}
+use mathlib.Core.List.{List, [], ◌∷◌}
 use Prim.Native.Nat.{ℕ, zero, suc, ◌<◌}
 use native.Mathlib.Omega.{arith}
 use lib.ListN.{length, get_or}
@@ -10,7 +10,7 @@ use base.Fml.{Fml}
 use denote.Shadow.{shadow}
 use denote.Array.{each}
 use denote.Struct.Declared as declared
-use borrow.Author.Rules.{rules, length_unmapped}
+use borrow.Author.Rules.{rules}
 use Rattle.machine.proofs.Filling.{length_mapped}
 use Rattle.panel.specs.declared.FaceJobs.{FaceJobs}
 use Rattle.panel.specs.declared.FaceState.{FaceState}

@@ -4,14 +4,11 @@ use mathlib.Core.Logic.{⊎_elim}
 use mathlib.Core.Bool.{Bool, true, false}
 use mathlib.Core.List.{List}
 use Prim.Native.Nat.{ℕ}
-use Rattle.graph.specs.Words.{pick}
-use Rattle.table.specs.declared.Outcome.{Outcome}
 use Rattle.table.specs.declared.Outcome.TheVariants.{Read}
 use Rattle.table.specs.declared.Loaded.{Loaded}
 use Rattle.table.specs.Numbers.{number, place}
-use Rattle.table.specs.Reading.{when_read, read}
+use Rattle.table.specs.Reading.{read}
 use Rattle.table.proofs.PartLaws.{told_other, not_read}
-use Rattle.machine.specs.declared.Ticked.{Ticked}
 use Rattle.machine.specs.Ticking.{refuse, tick_read, tick_by, tick}
 use Rattle.machine.proofs.Refusing.{read_or_not}
 use Rattle.panel.specs.declared.FaceState.{FaceState}

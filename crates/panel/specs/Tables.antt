@@ -1,5 +1,5 @@
 -- A table as it crosses the C face: its fields, and zeros where a struct of C has padding.
-use Rattle.std.specs.Prelude.{List, [], ℕ, get_or, replicate}
+use Rattle.std.specs.Prelude.{List, [], get_or, replicate}
 use Rattle.graph.specs.Words.{row}
 use Rattle.table.specs.declared.Task.{Task}
 use Rattle.table.specs.declared.Table.{Table}

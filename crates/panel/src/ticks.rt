@@ -2,20 +2,22 @@
 ghost use Rattle.std.specs.Prelude.{◌≡◌};
 ghost use Rattle.panel.specs.Answers.{opened_face, open_answer, answer_face, ticked_face, refused_face, tick_answer};
 
-use crate::{FaceState, OpenAnswer, TickAnswer, TickedFace, states};
-use machine::{Answer, Opened, Ticked, Triple};
+use crate::{FaceState, OpenAnswer, TickAnswer, TickedFace};
+use machine::{Answer, Opened, State, Ticked, Triple};
 use table::Outcome;
 
 // Opening's answer as it crosses.
-fn opened_face(o: Opened) -> OpenAnswer
-    ensures { result ≡ opened_face o }
-{
-    OpenAnswer {
-        place: o.reply.place as u64,
-        number: o.reply.number,
-        task: o.reply.task,
-        pad: [0u8; 6],
-        state: states::face_of(o.state),
+impl From<Opened> for OpenAnswer {
+    ghost from_gives = { λ o a. a ≡ opened_face o };
+
+    fn from(o: Opened) -> OpenAnswer {
+        OpenAnswer {
+            place: o.reply.place as u64,
+            number: o.reply.number,
+            task: o.reply.task,
+            pad: [0; 6],
+            state: FaceState::from(o.state),
+        }
     }
 }
 
@@ -23,37 +25,45 @@ fn opened_face(o: Opened) -> OpenAnswer
 pub fn mt_open(bytes: &[u8], clock: u32) -> OpenAnswer
     ensures { result ≡ open_answer bytes.now clock }
 {
-    opened_face(machine::open(bytes, clock))
+    OpenAnswer::from(machine::open(bytes, clock))
 }
 
 // A tick's answer as it crosses.
-fn answer_face(a: Answer) -> TickAnswer
-    ensures { result ≡ answer_face a }
-{
-    let ran = a.ran;
-    TickAnswer {
-        place: a.reply.place as u64,
-        number: a.reply.number,
-        task: a.reply.task,
-        finished: a.finished,
-        ran: ran,
-        pad: [0u8; 4],
+impl From<Answer> for TickAnswer {
+    ghost from_gives = { λ a t. t ≡ answer_face a };
+
+    fn from(a: Answer) -> TickAnswer {
+        let Answer {
+            reply,
+            ran,
+            finished,
+        } = a;
+        TickAnswer {
+            place: reply.place as u64,
+            number: reply.number,
+            task: reply.task,
+            finished,
+            ran,
+            pad: [0; 4],
+        }
     }
 }
 
 // The same with the next state.
-fn ticked_face(t: Ticked) -> TickedFace
-    ensures { result ≡ ticked_face t }
-{
-    TickedFace {
-        answer: answer_face(t.answer),
-        state: states::face_of(t.state),
+impl From<Ticked> for TickedFace {
+    ghost from_gives = { λ t f. f ≡ ticked_face t };
+
+    fn from(t: Ticked) -> TickedFace {
+        TickedFace {
+            answer: TickAnswer::from(t.answer),
+            state: FaceState::from(t.state),
+        }
     }
 }
 
 // A refusal that names no task: the same state, eight unused places, the empty set.
-fn refused_face(f: FaceState, number: u8, place: usize) -> TickedFace
-    ensures { result ≡ refused_face f number place }
+fn refused_face(state: FaceState, number: u8, place: usize) -> TickedFace
+    ensures { result ≡ refused_face state number place }
 {
     let unused = Triple {
         task: 255,
@@ -62,25 +72,22 @@ fn refused_face(f: FaceState, number: u8, place: usize) -> TickedFace
     };
     let answer = TickAnswer {
         place: place as u64,
-        number: number,
+        number,
         task: 255,
         finished: 0,
         ran: [unused; 8],
-        pad: [0u8; 4],
+        pad: [0; 4],
     };
-    TickedFace {
-        answer: answer,
-        state: f,
-    }
+    TickedFace { answer, state }
 }
 
 // One tick of a state that crossed.
 fn tick_face(f: FaceState, bytes: &[u8], releases: u16) -> TickedFace
     ensures { result ≡ tick_answer bytes.now f releases }
 {
-    if states::is_proper(f) {
-        let before = states::state_of(f);
-        return ticked_face(before.tick(bytes, releases));
+    if f.is_proper() {
+        let before = State::from(f);
+        return TickedFace::from(before.tick(bytes, releases));
     }
     let loaded = table::read(bytes);
     let o = loaded.outcome;
@@ -101,9 +108,7 @@ pub fn mt_tick(bytes: &[u8], state: FaceState, releases: u16) -> TickedFace
 pub fn mt_tick_in_place(state: &mut FaceState, bytes: &[u8], releases: u16) -> TickAnswer
     ensures { (result ≡ (tick_answer bytes.now state.old releases).answer) × (state.new ≡ (tick_answer bytes.now state.old releases).state) }
 {
-    let old = *state;
-    let t = tick_face(old, bytes, releases);
-    let next = t.state;
-    *state = next;
-    t.answer
+    let ticked = tick_face(*state, bytes, releases);
+    *state = ticked.state;
+    ticked.answer
 }

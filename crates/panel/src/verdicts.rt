@@ -11,18 +11,20 @@ use crate::VerdictAnswer;
 use verdict::Verdict;
 
 // A verdict as it crosses.
-fn verdict_face(v: Verdict) -> VerdictAnswer
-    ensures { result ≡ verdict_face v }
-{
-    let chain = v.chain;
-    VerdictAnswer {
-        place: v.place as u64,
-        margin: v.margin,
-        number: v.number,
-        task: v.task,
-        count: v.count,
-        chain: chain,
-        pad: [0u8; 5],
+impl From<Verdict> for VerdictAnswer {
+    ghost from_gives = { λ v a. a ≡ verdict_face v };
+
+    fn from(v: Verdict) -> VerdictAnswer {
+        let chain = v.chain;
+        VerdictAnswer {
+            place: v.place as u64,
+            margin: v.margin,
+            number: v.number,
+            task: v.task,
+            count: v.count,
+            chain,
+            pad: [0; 5],
+        }
     }
 }
 
@@ -30,38 +32,33 @@ fn verdict_face(v: Verdict) -> VerdictAnswer
 pub fn mt_verdict(bytes: &[u8]) -> VerdictAnswer
     ensures { result ≡ verdict_face (verdict bytes.now) }
 {
-    verdict_face(verdict::verdict_of(bytes))
+    VerdictAnswer::from(verdict::verdict_of(bytes))
 }
 
 // The sharp verdict on a file.
 pub fn mt_sharp(bytes: &[u8]) -> VerdictAnswer
     ensures { result ≡ verdict_face (sharp bytes.now) }
 {
-    verdict_face(sharp::sharp_of(bytes))
+    VerdictAnswer::from(sharp::sharp_of(bytes))
 }
 
 // Whether the verdict on a file is 0: 1 for yes, 0 for no.
 pub fn mt_quick(bytes: &[u8]) -> u8
     ensures { result ≡ flag (quick bytes.now) }
 {
-    if quick::quick(bytes) {
-        return 1;
-    }
-    0
+    u8::from(quick::quick(bytes))
 }
 
 // The report on a file: its text at the front of the buffer if it fits there, and the rest as it was; its length.
 pub fn mt_report(bytes: &[u8], out: &mut [u8]) -> u64
     ensures { (result ≡ length (report bytes.now)) × (out.new ≡ report_into (report bytes.now) out.old) }
 {
-    let len = reports::report_into(bytes, out);
-    len as u64
+    reports::report_into(bytes, out) as u64
 }
 
 // The sharp report on a file, likewise.
 pub fn mt_sharp_report(bytes: &[u8], out: &mut [u8]) -> u64
     ensures { (result ≡ length (sharp_report bytes.now)) × (out.new ≡ report_into (sharp_report bytes.now) out.old) }
 {
-    let len = reports::sharp_report_into(bytes, out);
-    len as u64
+    reports::sharp_report_into(bytes, out) as u64
 }

@@ -27,9 +27,9 @@ pub loop-j-preserved : goal.loop-j-preserved
 loop-j-preserved c =
     let l = c.loop-j in
     let r = c.args.row.now in
-    let f : ℕ → ℕ = λ k. get_or c.args.ticks (row_slot r.bytes.now r.at k) 0 in
+    let f : ℕ → ℕ = λ k. get_or c.args.ticks.now (row_slot r.bytes.now r.at k) 0 in
     c.max-most.ensures
-    ∙ ap (λ (i : ℕ). max l.most (get_or c.args.ticks i 0)) c.slot.ensures
+    ∙ ap (λ (i : ℕ). max l.most (get_or c.args.ticks.now i 0)) c.slot.ensures
     ∙ ap (λ (b : ℕ). max b (f l.j)) l.invariant
     ∙ sym (largest_next l.j f)
 
@@ -38,4 +38,4 @@ returns c =
     let l = c.loop-j in
     let r = c.args.row.now in
     let e : l.j ≡ row_count r.bytes.now r.at = omega arith in
-    l.invariant ∙ ap (λ (n : ℕ). largest n (λ k. get_or c.args.ticks (row_slot r.bytes.now r.at k) 0)) e
+    l.invariant ∙ ap (λ (n : ℕ). largest n (λ k. get_or c.args.ticks.now (row_slot r.bytes.now r.at k) 0)) e

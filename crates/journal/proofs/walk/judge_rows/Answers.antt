@@ -15,7 +15,7 @@ pub returns-in-Err : goal.returns-in-Err
 returns-in-Err c =
     let a = c.args in
     let l = c.loop-next in
-    let n = c.number-number in
+    let n = c.number in
     rows_refused a.t a.bytes.now a.end l.state l.next l.rows c.loop-next-test.true n.result (n.ensures ∙ c.in-Err.ensures.number)
     (λ z. number_some c.in-Err.fault (sym n.ensures ∙ z))
     ∙ l.invariant.judged

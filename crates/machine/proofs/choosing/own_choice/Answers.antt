@@ -13,7 +13,7 @@ choose-requires c =
     let a = c.args in (
       c.requires,
       λ k b e. ap (λ (l : List ℕ). get_or l k 0) c.sets_of-sets.ensures ∙ row_at 64 _ k 0 b
-          ∙ ap (λ (x : Bool). pick x (set_of 16 (is_ready (task a.t (k % 16)).succ (task a.t (k % 16)).v a.rows.now.remaining k)) 0) e,
+          ∙ ap (λ (x : Bool). pick x (set_of 16 (is_ready (task a.t (k % 16)).succ (task a.t (k % 16)).v a.remaining.now k)) 0) e,
     )
 
 pub returns : goal.returns

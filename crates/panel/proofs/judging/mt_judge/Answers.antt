@@ -1,8 +1,7 @@
--- `mt_judge` meets its contract: the number, the place, the row, the rows and whether the last one missed.
-use mathlib.Core.Path.{sym}
-use borrow.Author.Rules.{rules}
-use Rattle.panel.proofs.Answers.{answers_ruling}
+use mathlib.Core.Path.{ap, ◌∙◌}
+use Rattle.panel.specs.Answers.{ruling_face, ruling_answer}
 use Rattle.panel.proofs.judging.mt_judge.Goals as goal
 
 pub returns : goal.returns
-returns c = sym (answers_ruling _ _ c.judge-j.result _ c.judge-j.ensures c.flag_of-missed.ensures)
+unfolding ruling_answer
+returns c = c.from.ensures ∙ ap ruling_face c.judge.ensures

@@ -1,6 +1,5 @@
 -- `at_of` meets its contract, by the case of the phase.
 use mathlib.Core.Path.{sym, ap}
-use borrow.Author.Rules.{rules}
 use Rattle.panel.specs.States.{at_of}
 use Rattle.panel.proofs.states.at_of.Goals as goal
 

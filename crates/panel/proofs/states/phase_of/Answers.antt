@@ -8,6 +8,6 @@ pub returns-then-stopped-eq0 : goal.returns-then-stopped-eq0
 unfolding phase_of
 returns-then-stopped-eq0 c = rw (eq-eqb _ _ c.if-stopped-eq0.true) refl
 
-pub returns : goal.returns
+pub returns-else-stopped-eq0 : goal.returns-else-stopped-eq0
 unfolding phase_of
-returns c = rw (ne_eqb _ _ c.if-stopped-eq0.false) refl
+returns-else-stopped-eq0 c = rw (ne_eqb _ _ c.if-stopped-eq0.false) refl

@@ -8,6 +8,6 @@ pub returns-then-live-eq0 : goal.returns-then-live-eq0
 unfolding place_of
 returns-then-live-eq0 c = rw (eq-eqb _ _ c.if-live-eq0.true) refl
 
-pub returns : goal.returns
+pub returns-else-live-eq0 : goal.returns-else-live-eq0
 unfolding place_of
-returns c = rw (ne_eqb _ _ c.if-live-eq0.false) refl
+returns-else-live-eq0 c = rw (ne_eqb _ _ c.if-live-eq0.false) refl

@@ -1,13 +1,12 @@
--- `stopped_of` meets its contract, by the case of the phase.
-use mathlib.Core.Path.{sym, ap}
-use borrow.Author.Rules.{rules}
+use mathlib.Core.Path.{sym, ap, ◌∙◌}
+use Rattle.std.specs.Int.{from_bool}
 use Rattle.panel.specs.States.{stopped_of}
+use Rattle.panel.proofs.states.stopped_of.Goals.{in-Stopped, in_default}
 use Rattle.panel.proofs.states.stopped_of.Goals as goal
 
-pub returns-in-Running : goal.returns-in-Running
+pub returns : goal.returns
 unfolding stopped_of
-returns-in-Running c = sym (ap stopped_of c.in-Running.is)
-
-pub returns-in-Stopped : goal.returns-in-Stopped
-unfolding stopped_of
-returns-in-Stopped c = sym (ap stopped_of c.in-Stopped.is)
+returns c = c.from.ensures ∙ elim c.match-matches.branch [
+  | in-Stopped w ↦ ap from_bool w.matches-is ∙ sym (ap stopped_of w.in-Stopped.is)
+  | in_default w ↦ ap from_bool w.matches-is ∙ sym (ap stopped_of w.in_default.is)
+]

@@ -1,6 +1,5 @@
 -- `mt_write` meets its contract: the place and the number of writing, and what it leaves in the buffer.
 use mathlib.Core.Path.{sym, ap, ◌∙◌}
-use borrow.Author.Rules.{rules}
 use Rattle.table.specs.declared.Table.{Table}
 use Rattle.table.specs.Writing.{written}
 use Rattle.panel.proofs.Answers.{answers_write}
@@ -9,7 +8,7 @@ use Rattle.panel.proofs.tables.mt_write.Goals as goal
 pub returns : goal.returns
 returns c =
     let w = c.write-w in
-    let t = c.table_of in (
+    let t = c.from in (
       sym (answers_write _ t.result _ w.result _ _ t.ensures w.ensures.0 c.writing_number.ensures c.writing_place.ensures),
       w.ensures.1 ∙ ap (λ (x : Table). written x c.args.buffer.now) t.ensures,
     )

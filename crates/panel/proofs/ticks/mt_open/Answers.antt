@@ -1,9 +1,8 @@
 -- `mt_open` meets its contract: opening's number, task, place and state.
 use mathlib.Core.Path.{ap, ◌∙◌}
 use Rattle.panel.specs.Answers.{opened_face, open_answer}
-use borrow.Author.Rules.{rules}
 use Rattle.panel.proofs.ticks.mt_open.Goals as goal
 
 pub returns : goal.returns
 unfolding open_answer
-returns c = c.opened_face.ensures ∙ ap opened_face c.open.ensures
+returns c = c.from.ensures ∙ ap opened_face c.open.ensures

@@ -1,8 +1,7 @@
 -- `mt_sharp` meets its contract: the verdict, as it crosses.
 use mathlib.Core.Path.{ap, ◌∙◌}
-use borrow.Author.Rules.{rules}
 use Rattle.panel.specs.Answers.{verdict_face}
 use Rattle.panel.proofs.verdicts.mt_sharp.Goals as goal
 
 pub returns : goal.returns
-returns c = c.verdict_face.ensures ∙ ap verdict_face c.sharp_of.ensures
+returns c = c.from.ensures ∙ ap verdict_face c.sharp_of.ensures

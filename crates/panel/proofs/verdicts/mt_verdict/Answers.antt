@@ -1,8 +1,7 @@
 -- `mt_verdict` meets its contract: the verdict, as it crosses.
 use mathlib.Core.Path.{ap, ◌∙◌}
-use borrow.Author.Rules.{rules}
 use Rattle.panel.specs.Answers.{verdict_face}
 use Rattle.panel.proofs.verdicts.mt_verdict.Goals as goal
 
 pub returns : goal.returns
-returns c = c.verdict_face.ensures ∙ ap verdict_face c.verdict_of.ensures
+returns c = c.from.ensures ∙ ap verdict_face c.verdict_of.ensures

@@ -1,9 +1,0 @@
--- `opened_face` meets its contract: the reply's numbers as they are, and the state as it crosses.
-use mathlib.Core.Path.{refl}
-use Rattle.panel.specs.Answers.{opened_face}
-use borrow.Author.Rules.{rules}
-use Rattle.panel.proofs.ticks.opened_face.Goals as goal
-
-pub returns : goal.returns
-unfolding opened_face
-returns c = rw c.face_of.ensures refl
