@@ -1,5 +1,5 @@
 -- What reading takes from an input, whose bytes are known or not.
-use Rattle.std.specs.Prelude.{◌≡◌, ℕ, ◌<◌, ◌≤◌, min, List, length, take, MatchOption}
+use Rattle.std.specs.Prelude.{◌≡◌, ℕ, ◌-◌, ◌<◌, ◌≤◌, min, List, length, take, drop, replicate, MatchOption}
 use Rattle.std.specs.declared.option.Option.{Option}
 use Rattle.std.specs.Io.KnownBytes.{Consumes, IsAtEnd}
 
@@ -14,6 +14,10 @@ NextBytes old new n found = MatchOption found (Ended old new n) (λ bytes. (leng
 -- the number that the next n bytes stand for
 abbrev pub NextNumber : Option (List ℕ) → Option (List ℕ) → ℕ → (List ℕ → ℕ) → Option ℕ → Type 0
 NextNumber old new n value found = MatchOption found (Ended old new n) (λ x. (bytes : List ℕ) × (length bytes ≡ n) × (x ≡ value bytes) × Consumes old new bytes)
+
+-- the next n bytes, which the input has lost; from where it ends zeros
+abbrev pub PaddedBytes : Option (List ℕ) → Option (List ℕ) → ℕ → List ℕ → Type 0
+PaddedBytes old new n bytes = (count : ℕ) × (count ≤ n) × Consumes old new (take count bytes) × (drop count bytes ≡ replicate (n - count) 0) × (count < n → IsAtEnd new)
 
 -- count bytes stand at a buffer's front, which the input has lost: as many as were wanted, or those that it had, as far as the buffer holds them
 abbrev pub FilledFront : Option (List ℕ) → Option (List ℕ) → ℕ → List ℕ → ℕ → Type 0

@@ -1,10 +1,10 @@
 // Reading as much as there is, for the programs.
 #![tactic(auto)]
 
-ghost use Rattle.std.specs.Prelude.{◌≡◌, ◌<◌, ◌≤◌, length, take, slice_index, IfOk};
-ghost use Rattle.std.specs.Int.{w16, w32, from_le_bytes};
+ghost use Rattle.std.specs.Prelude.{◌≡◌, ◌<◌, ◌≤◌, length, take, IfOk, OnOk};
+ghost use Rattle.std.specs.Int.{w16, from_le_bytes};
 ghost use Rattle.std.specs.Io.KnownBytes.{Consumes, IsAtEnd};
-ghost use Rattle.streams.specs.Reading.{NextBytes, NextNumber, FilledFront, FilledSized};
+ghost use Rattle.streams.specs.Reading.{NextBytes, NextNumber, PaddedBytes, FilledFront, FilledSized};
 
 use std::io;
 use std::io::Read;
@@ -50,13 +50,6 @@ fn next_bytes<R: Read, const N: usize>(input: &mut R) -> io::Result<Option<[u8; 
     Ok(if n < N { None } else { Some(bytes) })
 }
 
-// The next byte.
-pub fn next_byte<R: Read>(input: &mut R) -> io::Result<Option<u8>>
-    ensures { IfOk result (λ found. NextNumber (R.remaining input.old) (R.remaining input.new) 1 (λ b. slice_index b 0) found) }
-{
-    Ok(next_bytes(input)?.map(u8::from_le_bytes))
-}
-
 // The number in the next two bytes, the lower first.
 pub fn next_u16<R: Read>(input: &mut R) -> io::Result<Option<u16>>
     ensures { IfOk result (λ found. NextNumber (R.remaining input.old) (R.remaining input.new) 2 (from_le_bytes w16) found) }
@@ -64,11 +57,22 @@ pub fn next_u16<R: Read>(input: &mut R) -> io::Result<Option<u16>>
     Ok(next_bytes(input)?.map(u16::from_le_bytes))
 }
 
-// The number in the next four bytes, the lowest first.
-pub fn next_u32<R: Read>(input: &mut R) -> io::Result<Option<u32>>
-    ensures { IfOk result (λ found. NextNumber (R.remaining input.old) (R.remaining input.new) 4 (from_le_bytes w32) found) }
+// Fills a buffer with the next bytes, and from where the input ends with zeros.
+fn read_padded<R: Read>(input: &mut R, buf: &mut [u8]) -> io::Result<()>
+    ensures { OnOk result (PaddedBytes (R.remaining input.old) (R.remaining input.new) (length buf.old) buf.new) }
 {
-    Ok(next_bytes(input)?.map(u32::from_le_bytes))
+    let n = read_full(input, buf)?;
+    buf[n..].fill(0);
+    Ok(())
+}
+
+// The next N bytes; from where the input ends zeros.
+pub fn next_padded<R: Read, const N: usize>(input: &mut R) -> io::Result<[u8; N]>
+    ensures { IfOk result (λ bytes. PaddedBytes (R.remaining input.old) (R.remaining input.new) N bytes) }
+{
+    let mut bytes = [0; N];
+    read_padded(input, &mut bytes)?;
+    Ok(bytes)
 }
 
 // Reads a length in two bytes, the lower first, and as many bytes into the front of a buffer, as far as it holds them; how many came,

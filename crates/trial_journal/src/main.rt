@@ -22,7 +22,7 @@ fn answer(rt: &impl Print, file: &[u8], rows: &[u8]) -> io::Result<()> {
 }
 
 // One case; false where the input ends.
-fn one(
+fn run_case(
     rt: &impl Print,
     input: &mut impl Read,
     file: &mut CaseFile,
@@ -40,5 +40,5 @@ fn main(rt: HostRuntime) -> io::Result<()> {
     let mut input = rt.stdin();
     let mut file = CaseFile::new();
     let mut rows = [0; SIZED_ROOM];
-    cases::run_cases(|| one(&rt, &mut input, &mut file, &mut rows))
+    cases::run_cases(|| run_case(&rt, &mut input, &mut file, &mut rows))
 }

@@ -44,7 +44,7 @@ fn answer(rt: &impl Print, file: &[u8]) -> io::Result<()> {
 }
 
 // One case; false where the input ends.
-fn one(rt: &impl Print, input: &mut impl Read, buf: &mut [u8]) -> io::Result<bool> {
+fn run_case(rt: &impl Print, input: &mut impl Read, buf: &mut [u8]) -> io::Result<bool> {
     let Some(n) = streams::read_sized(input, buf)? else {
         return Ok(false);
     };
@@ -55,5 +55,5 @@ fn one(rt: &impl Print, input: &mut impl Read, buf: &mut [u8]) -> io::Result<boo
 fn main(rt: HostRuntime) -> io::Result<()> {
     let mut input = rt.stdin();
     let mut buf = [0; SIZED_ROOM];
-    cases::run_cases(|| one(&rt, &mut input, &mut buf))
+    cases::run_cases(|| run_case(&rt, &mut input, &mut buf))
 }

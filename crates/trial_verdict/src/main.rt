@@ -14,8 +14,8 @@ use verdict::Verdict;
 // Changes the bytes that come next in the input.
 fn change(input: &mut impl Read, file: &mut CaseFile, count: u8) -> io::Result<()> {
     for _ in 0..count {
-        let at = streams::next_u16(input)?.unwrap_or(0);
-        let b = streams::next_byte(input)?.unwrap_or(0);
+        let at = u16::from_le_bytes(streams::next_padded(input)?);
+        let [b] = streams::next_padded(input)?;
         file.put(usize::from(at), b);
     }
     Ok(())
@@ -41,7 +41,7 @@ fn answer_file(rt: &impl Print, file: &[u8], page: &mut [u8]) -> io::Result<()> 
 }
 
 // One case; false where the input ends.
-fn one(
+fn run_case(
     rt: &impl Print,
     input: &mut impl Read,
     file: &mut CaseFile,
@@ -50,7 +50,7 @@ fn one(
     if !file.read_next(input)? {
         return Ok(false);
     }
-    let count = streams::next_byte(input)?.unwrap_or(0);
+    let [count] = streams::next_padded(input)?;
     change(input, file, count)?;
     answer_file(rt, file.bytes(), page)?;
     Ok(true)
@@ -60,5 +60,5 @@ fn main(rt: HostRuntime) -> io::Result<()> {
     let mut input = rt.stdin();
     let mut file = CaseFile::new();
     let mut page = [0; SIZED_ROOM];
-    cases::run_cases(|| one(&rt, &mut input, &mut file, &mut page))
+    cases::run_cases(|| run_case(&rt, &mut input, &mut file, &mut page))
 }

@@ -45,7 +45,7 @@ fn answer(rt: &impl Print, input: &[u8]) -> io::Result<()> {
 }
 
 // One run; false where the input ends.
-fn one(rt: &impl Print, input: &mut impl Read, buf: &mut [u8]) -> io::Result<bool> {
+fn run_case(rt: &impl Print, input: &mut impl Read, buf: &mut [u8]) -> io::Result<bool> {
     let Some(n) = streams::read_sized(input, buf)? else {
         return Ok(false);
     };
@@ -56,5 +56,5 @@ fn one(rt: &impl Print, input: &mut impl Read, buf: &mut [u8]) -> io::Result<boo
 fn main(rt: HostRuntime) -> io::Result<()> {
     let mut input = rt.stdin();
     let mut buf = [0; SIZED_ROOM];
-    cases::run_cases(|| one(&rt, &mut input, &mut buf))
+    cases::run_cases(|| run_case(&rt, &mut input, &mut buf))
 }

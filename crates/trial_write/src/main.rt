@@ -31,8 +31,8 @@ fn with_field(mut t: Table, code: u16, value: u32) -> Table {
 fn changed(input: &mut impl Read, base: Table, count: u8) -> io::Result<Table> {
     let mut t = base;
     for _ in 0..count {
-        let code = streams::next_u16(input)?.unwrap_or(0);
-        let value = streams::next_u32(input)?.unwrap_or(0);
+        let code = u16::from_le_bytes(streams::next_padded(input)?);
+        let value = u32::from_le_bytes(streams::next_padded(input)?);
         t = with_field(t, code, value);
     }
     Ok(t)
@@ -49,7 +49,7 @@ fn answer(rt: &impl Print, t: Table, buffer: &mut [u8]) -> io::Result<()> {
 }
 
 // One case; false where the input ends.
-fn one(
+fn run_case(
     rt: &impl Print,
     input: &mut impl Read,
     file: &mut CaseFile,
@@ -59,9 +59,9 @@ fn one(
         return Ok(false);
     }
     let base = table::read(file.bytes()).table;
-    let count = streams::next_byte(input)?.unwrap_or(0);
+    let [count] = streams::next_padded(input)?;
     let t = changed(input, base, count)?;
-    let n = streams::next_u16(input)?.unwrap_or(0);
+    let n = u16::from_le_bytes(streams::next_padded(input)?);
     answer(rt, t, &mut buffer[..usize::from(n)])?;
     Ok(true)
 }
@@ -70,5 +70,5 @@ fn main(rt: HostRuntime) -> io::Result<()> {
     let mut input = rt.stdin();
     let mut file = CaseFile::new();
     let mut buffer = [0; SIZED_ROOM];
-    cases::run_cases(|| one(&rt, &mut input, &mut file, &mut buffer))
+    cases::run_cases(|| run_case(&rt, &mut input, &mut file, &mut buffer))
 }
