@@ -8,12 +8,14 @@ use native.Mathlib.Omega.{arith}
 use native.Mathlib.Numerals.{add-one}
 use native.Mathlib.Nat.{sub-zero, div-lt_iff_lt-mul, div-eq_of_lt, lt_of_lt_of_le}
 use native.Mathlib.Decide.{ℕ_discrete, dec_lt}
-use lib.ListN.{length, get_or, set, length-set, replicate}
-use lib.Seq.{ext_get_or, get_or-set_same, get_or-set_other}
+use lib.ListN.{length, get_or, take, drop, length-append, length-drop, replicate}
+use lib.Seq.{ext_get_or, get_or-drop}
+use Rattle.std.proofs.lemmas.List.{get_or-take, get_or_append_left, get_or-append_right, length-take-le}
+use Rattle.table.proofs.Bits.{zeros_at}
 use lib.Pow.{pow_pos, pow_mono}
 use lib.Dec.{ltb, leb, eqb}
 use borrow.Author.Tests.{eqb-true, lt-leb, lt-ltb, le-ltb, eq-eqb, ne_eqb}
-use Rattle.graph.specs.Words.{pick, bit, row_from, row, also_if, join_from, in_order}
+use Rattle.graph.specs.Words.{pick, bit, also_if, join_from, in_order}
 use Rattle.graph.proofs.Facts.{length_row, row_at}
 use Rattle.table.specs.declared.Outcome.{Outcome}
 use Rattle.table.specs.declared.Outcome.TheVariants.{Ticks, Edge}
@@ -206,26 +208,26 @@ used_at : (v : ℕ) (succ : List ℕ) (k : ℕ) → k < 16 → get_or (used_rows
 unfolding used_rows
 used_at v succ k h = row_at 16 _ k 0 h
 
-pub used_more : (succ : List ℕ) (u : ℕ) → u < 16 → set (used_rows u succ) u (get_or succ u 0) ≡ used_rows (u + 1) succ
-used_more succ u h =
-    let m = used_long u succ in
-    let n = length-set (used_rows u succ) u (get_or succ u 0) in
-    ext_get_or 0 (set (used_rows u succ) u (get_or succ u 0)) (used_rows (u + 1) succ) (n ∙ m ∙ sym (used_long (u + 1) succ)) (λ k l.
+abbrev pub zeros : List ℕ
+zeros = replicate 16 0
+
+pub used_copied : (v : ℕ) (succ : List ℕ) → v ≤ 16 → length succ ≡ 16 → take v succ ++ drop v zeros ≡ used_rows v succ
+used_copied v succ h n =
+    let m : length (take v succ) ≡ v = length-take-le v succ (omega arith) in
+    let d = length-drop v zeros in
+    let a = length-append (take v succ) (drop v zeros) in
+    let z : length zeros ≡ 16 = refl in
+    let e : length (take v succ ++ drop v zeros) ≡ 16 = omega arith in
+    ext_get_or 0 (take v succ ++ drop v zeros) (used_rows v succ) (e ∙ sym (used_long v succ)) (λ k l.
     let k16 : k < 16 = omega arith in
-    elim (ℕ_discrete k u) [
-      | yes e ↦
-          rw e (get_or-set_same (used_rows u succ) u (get_or succ u 0) 0 (omega arith)
-          ∙ sym (used_at (u + 1) succ u h ∙ ap (λ (b : Bool). pick b (get_or succ u 0) 0) (lt-ltb u (u + 1) (omega arith))))
-      | no e ↦
-          get_or-set_other (used_rows u succ) u k (get_or succ u 0) 0 e ∙ used_at u succ k k16
-          ∙ ap (λ (b : Bool). pick b (get_or succ k 0) 0) (same k e) ∙ sym (used_at (u + 1) succ k k16)
+    elim (dec_lt k v) [
+      | yes q ↦
+          get_or_append_left (take v succ) (drop v zeros) 0 k (omega arith) ∙ get_or-take v succ k 0 q
+          ∙ sym (used_at v succ k k16 ∙ ap (λ (b : Bool). pick b (get_or succ k 0) 0) (lt-ltb k v q))
+      | no q ↦
+          get_or-append_right (take v succ) (drop v zeros) v k 0 m (omega arith) ∙ get_or-drop v zeros (k - v) 0 ∙ zeros_at 16 (v + (k - v))
+          ∙ sym (used_at v succ k k16 ∙ ap (λ (b : Bool). pick b (get_or succ k 0) 0) (le-ltb k v (omega arith)))
     ])
-  where
-    same : (k : ℕ) → (k ≡ u → ⊥) → ltb k u ≡ ltb k (u + 1)
-    same k e = elim (dec_lt k u) [
-      | yes l ↦ lt-ltb k u l ∙ sym (lt-ltb k (u + 1) (omega arith))
-      | no l ↦ le-ltb k u (omega arith) ∙ sym (le-ltb k (u + 1) (omega arith))
-    ]
 
 -- ---- the edges vertex by vertex: a vertex refused, one let through, the end
 module _ (v : ℕ) (succ : List ℕ) (u p : ℕ) (h : u < v) where
@@ -241,7 +243,3 @@ module _ (v : ℕ) (succ : List ℕ) (u p : ℕ) (h : u < v) where
 pub rows_end : (v : ℕ) (succ : List ℕ) (u p : ℕ) → v ≤ u → Ok p ≡ edges_tested v (keys_from v succ u) p
 unfolding edges_tested
 rows_end v succ u p h = rw (keys_end v succ u h)
-
-pub no_rows : (succ : List ℕ) → replicate 16 0 ≡ used_rows 0 succ
-unfolding used_rows row row_from
-no_rows succ = refl

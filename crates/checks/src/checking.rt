@@ -6,7 +6,8 @@ ghost use Rattle.checks.specs.Checking.{row_keys, keys_of, edges_of, edges_teste
 
 use table::{Outcome, Table, Task};
 
-// How many successor bits the first v vertices have: the whole count, not cut to a byte.
+// How many successor bits the first v vertices have: the whole count, not cut to a byte. (A loop: `sum` would owe that the counts' sum
+// fits, which is known only step by step.)
 fn edge_count(succ: [u16; 16], v: usize) -> u32
     requires { v ≤ 16 }
     ensures { (result ≡ length (keys_of v succ)) × (result ≤ 256) }
@@ -102,9 +103,7 @@ fn used_rows(succ: [u16; 16], v: usize) -> [u16; 16]
     ensures { result ≡ used_rows v succ }
 {
     let mut rows = [0u16; 16];
-    for u in 0..v {
-        rows[u] = succ[u];
-    }
+    rows[..v].copy_from_slice(&succ[..v]);
     rows
 }
 

@@ -2,135 +2,46 @@
 // table, and 8,192 bytes of the journal at a time.
 #![tactic(auto)]
 
-ghost use Rattle.std.specs.Prelude.{◌≡◌, ◌≤◌, length};
-
 use journal::{Progress, Ruling};
-use lines::Line;
 use machine::Phase;
 use std::io;
 use std::io::Read;
+use streams::FILE_ROOM;
 use table::{Outcome, Table};
 
-// How far the journal is judged, its rows counted from the first; how many bytes at the buffer's front are not judged yet; and
-// whether nothing more is to come.
-#[derive(Clone, Copy)]
-struct Stand {
-    progress: Progress,
-    held: usize,
-    over: bool,
-}
-
-// Room for a table: of a longer one the first 5,061 bytes are read the same (`read_prefix`, the crate table).
-fn room() -> [u8; 5061]
-    ensures { 5061 ≡ length result }
-{
-    [0; 5061]
-}
-
 // Room for a piece of the journal.
-fn page() -> [u8; 8192]
-    ensures { 8192 ≡ length result }
-{
-    [0; 8192]
-}
+const PAGE: usize = 8192;
 
-// The smaller of two numbers.
-fn smaller(a: usize, b: usize) -> usize
-    ensures { (result ≤ a) × (result ≤ b) }
-{
-    if a < b {
-        return a;
-    }
-    b
-}
-
-// Reads the next n bytes of the input into the front of a buffer, and answers how many there were.
-fn fill(input: &mut impl Read, buf: &mut [u8], n: usize) -> io::Result<usize> {
-    let k = smaller(n, buf.len());
-    streams::read_full(input, &mut buf[..k])
-}
-
-// Reads on behind the first `held` bytes of a buffer, until it is full or the input ends; how many bytes it holds then.
-fn more(input: &mut impl Read, buf: &mut [u8], held: usize) -> io::Result<usize> {
-    let k = smaller(held, buf.len());
-    let got = streams::read_full(input, &mut buf[k..])?;
-    Ok(k + got)
-}
-
-// Moves the bytes from a place up to n to the front of a buffer, and answers how many they are.
-fn keep(buf: &mut [u8], from: usize, n: usize) -> usize {
-    let to = smaller(n, buf.len());
-    let at = smaller(from, to);
-    let mut k: usize = 0;
-    while at + k < to {
-        buf[k] = buf[at + k];
-        k += 1;
-    }
-    k
-}
-
-// Where the last row of a piece may begin: 769 bytes or more stand behind it, unless the journal ends there. So the piece alone
-// decides, whatever follows (`InPieces`, the crate journal).
-fn end_of(n: usize, last: bool) -> usize {
-    if last {
-        return n;
-    }
-    if n < 769 {
-        return 0;
-    }
-    n - 769
-}
-
-// One piece. A journal has fewer than 2^64 rows.
-fn step(input: &mut impl Read, t: Table, buf: &mut [u8], s: Stand) -> io::Result<Stand> {
-    let n = more(input, &mut *buf, s.held)?;
-    let k = smaller(n, buf.len());
-    let last = k < buf.len();
-    let end = end_of(k, last);
-    let before = s.progress;
-    let st = before.state;
-    let q = journal::judge_piece(t, &buf[..k], end, st);
-    let held = keep(&mut *buf, q.next, k);
-    let after = q.state;
-    let progress = Progress {
-        number: q.number,
-        next: 0,
-        rows: std::num::wrapping_add_usize(before.rows, q.rows),
-        state: after,
-    };
-    Ok(Stand {
-        progress: progress,
-        held: held,
-        over: last || q.number != 0,
-    })
-}
-
-// Piece after piece; the count of those left is there because a loop must be shown to end.
+// The ruling on the journal that follows in the input, piece after piece; what a piece leaves unjudged stands at the front of the
+// next one. The count of pieces is bounded because a loop must be shown to end; a journal has fewer than 2^64 rows.
 fn judge_input(input: &mut impl Read, t: Table) -> io::Result<Ruling> {
-    let idle = machine::zeros(0, Phase::Running);
-    let first = Progress {
+    let mut progress = Progress {
         number: 0,
         next: 0,
         rows: 0,
-        state: idle,
+        state: machine::zeros(0, Phase::Running),
     };
-    let mut buf = page();
-    let mut s = Stand {
-        progress: first,
-        held: 0,
-        over: false,
-    };
-    let mut left: u64 = 18446744073709551615;
-    while 0 < left {
-        s = step(input, t, &mut buf, s)?;
-        if s.over {
-            left = 0;
-        } else {
-            left -= 1;
+    let mut page = [0; PAGE];
+    let mut held = 0;
+    for _ in 0..u64::MAX {
+        let n = held + streams::read_full(input, &mut page[held..])?;
+        let last = n < PAGE;
+        // 769 bytes or more stand behind where a piece's last row may begin, unless the journal ends there. So the piece alone
+        // decides, whatever follows (`InPieces`, the crate journal).
+        let end = if last { n } else { n - 769 };
+        let piece = journal::judge_piece(t, &page[..n], end, progress.state);
+        progress = Progress {
+            rows: progress.rows.wrapping_add(piece.rows),
+            ..piece
+        };
+        if last || piece.number != 0 {
+            break;
         }
+        let from = piece.next.min(n);
+        page.copy_within(from..n, 0);
+        held = n - from;
     }
-    let p = s.progress;
-    Ok(journal::rule(p))
+    Ok(journal::rule(progress))
 }
 
 // The ruling on a table's bytes and the journal that follows in the input. The table is read once.
@@ -143,24 +54,13 @@ fn ruling_on(input: &mut impl Read, file: &[u8]) -> io::Result<Ruling> {
     judge_input(input, l.table)
 }
 
-// Writes a line.
-fn print(rt: &impl Print, line: Line) -> io::Result<()> {
-    let n = smaller(line.len, 2048);
-    let words = line.bytes;
-    rt.write_all(&words[..n])
-}
-
-// The table's bytes, as many as there are of its length. What a longer table has behind its room is not passed over: the table is
-// refused, and nothing of what follows is judged.
+// The table's bytes, as many as there are of its length, of a longer table the first 5,061, which are read the same (`read_prefix`,
+// the crate table). What a longer table has behind its room is not passed over: the table is refused, and nothing of what follows is
+// judged.
 fn main(rt: HostRuntime) -> io::Result<()> {
     let mut input = rt.stdin();
-    let mut two = [0u8; 2];
-    streams::read_full(&mut input, &mut two)?;
-    let length = lines::set_of(two) as usize;
-    let mut table = room();
-    let n = fill(&mut input, &mut table, length)?;
-    let k = smaller(n, 5061);
-    let r = ruling_on(&mut input, &table[..k])?;
-    let line = lines::ruling_line(r);
-    print(&rt, line)
+    let mut table = [0; FILE_ROOM];
+    let n = streams::read_sized(&mut input, &mut table)?.unwrap_or(0);
+    let ruling = ruling_on(&mut input, &table[..n])?;
+    rt.write_all(lines::ruling_line(ruling).text())
 }

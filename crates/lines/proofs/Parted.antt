@@ -1,4 +1,4 @@
--- Parts of a line: what a test leaves of a text, a dash for nothing, one vertex behind another.
+-- Parts of a line: by what is tested of them, a dash for nothing, one vertex behind another.
 use mathlib.Core.Path.{◌≡◌, refl, sym, ap, ◌∙◌}
 use mathlib.Core.Bool.{Bool, true, false}
 use mathlib.Core.List.{List, [], ◌∷◌, ◌++◌, append-nil, append_assoc}
@@ -13,18 +13,12 @@ use Rattle.graph.specs.Words.{pick, bit}
 use Rattle.text.specs.Text.{text, decimal}
 use Rattle.text.specs.declared.page.Page.{Page}
 use Rattle.text.specs.Page.{Adds}
+use Rattle.text.proofs.Putting.{said}
 use Rattle.text.proofs.Pages.{then, same, still}
 use Rattle.machine.specs.declared.Triple.{Triple}
 use Rattle.machine.specs.declared.Reply.{Reply}
 use Rattle.machine.specs.declared.Answer.{Answer}
 use Rattle.lines.specs.Lines.{or_dash, vertex_text, vertices_text, slot_in, work_in, went_text, miss_text, refusal_text, answer_text}
-
--- ---- a test on a number passed, or did not
-pub said : (n k : ℕ) (x y : List ℕ) → n ≡ k → x ≡ pick (eqb n k) x y
-said n k x y e = rw (eq-eqb n k e)
-
-pub said_not : (n k : ℕ) (x y : List ℕ) → (n ≡ k → ⊥) → y ≡ pick (eqb n k) x y
-said_not n k x y e = rw (ne_eqb n k e)
 
 -- ---- a job whose slot is in the set of those that are live, or is not
 module _ (live : ℕ) (work : List ℕ) (c slot : ℕ) (e : slot ≡ slot_in c) where

@@ -1,7 +1,7 @@
 -- The judge's line: its cases, and its length, at most 56 bytes.
 use mathlib.Core.Path.{◌≡◌, refl}
 use mathlib.Core.Bool.{Bool, true, false}
-use mathlib.Core.List.{List, [], ◌++◌, append_assoc}
+use mathlib.Core.List.{List, [], ◌++◌}
 use Prim.Native.Nat.{ℕ, ◌≤◌, ◌<◌}
 use native.Mathlib.Omega.{arith}
 use lib.Dec.{eqb, leb}
@@ -19,10 +19,6 @@ if_so b x y e = rw e refl
 
 pub if_not : (b : Bool) (x y : List ℕ) → b ≡ false → y ≡ pick b x y
 if_not b x y e = rw e refl
-
--- ---- one text behind another
-pub joined : (x c d e : List ℕ) → x ++ ((c ++ d) ++ e) ≡ x ++ c ++ d ++ e
-joined x c d e = simp append_assoc
 
 -- ---- by the number
 module _ (r : Ruling) where

@@ -1,5 +1,7 @@
 -- Step 1 by rows: the slots that get a new job, as a set; a row of 1024 into which sixteen numbers are put, and then those of each slot of a set.
-use Rattle.std.proofs.Common.{◌≡◌, ℕ, ◌+◌, ◌-◌, ◌*◌, ◌/◌, ◌%◌, ◌^◌, ◌<◌, ◌≤◌, Bool, true, false, eqb, List, length, get_or, set, sym, refl, ap, ◌∙◌, arith, length-set, get_or-set_other, get_or-set_same, eq-eqb, ne_eqb}
+use Rattle.std.proofs.Common.{◌≡◌, ℕ, ◌+◌, ◌-◌, ◌*◌, ◌/◌, ◌%◌, ◌^◌, ◌<◌, ◌≤◌, Bool, true, false, eqb, List, ◌++◌, length, get_or, take, drop, sym, refl, ap, ◌∙◌, arith, rules, eq-eqb, ne_eqb}
+use Rattle.std.proofs.lemmas.List.{places, get_or_append_left, get_or-append_right}
+use borrow.Rule.Slice.PartMut.{put_mid}
 use mathlib.Core.Path.{subst⁻¹}
 use native.Mathlib.Decide.{ℕ_discrete, dec_lt}
 use lib.Bits.{bit_and}
@@ -36,20 +38,6 @@ pub record PutTo (costs before : List ℕ) (s u : ℕ) (now : List ℕ) : Type 0
   pub high : (k : ℕ) → 16 * s + u ≤ k → get_or now k 0 ≡ get_or before k 0
 
 module _ (costs before : List ℕ) (s : ℕ) where
-  pub put_none : length before ≡ 1024 → PutTo costs before s 0 before
-  put_none n = record { size = n; put = λ w b. absurd (omega arith); low = λ k b. refl; high = λ k b. refl }
-
-  pub put_one : (u : ℕ) (now : List ℕ) → PutTo costs before s u now → s < 64 → u < 16 → PutTo costs before s (u + 1) (set now (16 * s + u) (get_or costs ((16 * s + u) % 256) 0))
-  put_one u now r a b = record {
-    size = length-set now _ _ ∙ r.size;
-    put = λ w h. elim (ℕ_discrete w u) [
-      | yes e ↦ rw e (get_or-set_same now (16 * s + u) _ 0 (omega (arith, r.size)))
-      | no d ↦ get_or-set_other now (16 * s + u) (16 * s + w) _ 0 (λ q. d (omega arith)) ∙ r.put w (omega arith)
-    ];
-    low = λ k h. get_or-set_other now (16 * s + u) k _ 0 (λ q. absurd (omega arith)) ∙ r.low k h;
-    high = λ k h. get_or-set_other now (16 * s + u) k _ 0 (λ q. absurd (omega arith)) ∙ r.high k (omega arith);
-  }
-
   pub put_all : (u : ℕ) (now : List ℕ) → PutTo costs before s u now → u ≡ 16 → now ≡ row 1024 (λ k. pick (eqb (k / 16) s) (get_or costs (k % 256) 0) (get_or before k 0))
   put_all u now r e = sym (row_same 1024 0 _ now r.size (λ k b. elim (ℕ_discrete (k / 16) s) [
     | yes q ↦ rw (eq-eqb (k / 16) s q) (let z : k ≡ 16 * s + k % 16 = omega arith in
@@ -59,6 +47,23 @@ module _ (costs before : List ℕ) (s : ℕ) where
       | no l ↦ sym (r.high k (omega arith))
     ])
   ]))
+
+-- copied all at once
+pub copied : (costs : List ℕ) (s n : ℕ) (before part : List ℕ) → s < 64 → length before ≡ 1024 → n ≡ 16 → length part ≡ 16
+    → ((w : ℕ) → w < 16 → get_or part w 0 ≡ get_or costs ((16 * s + w) % 256) 0) → PutTo costs before s 16 (put_mid (16 * s) n before part)
+copied costs s n before part b long e l p =
+    let a : length (take (16 * s) before) ≡ 16 * s = search (rules, places) in
+    record {
+      size = search (rules, places);
+      put = λ w c.
+          let m : 16 * s + w - 16 * s ≡ w = omega arith in
+          get_or-append_right (take (16 * s) before) (part ++ drop n (drop (16 * s) before)) (16 * s) (16 * s + w) 0 a (omega arith)
+          ∙ ap (λ (j : ℕ). get_or (part ++ drop n (drop (16 * s) before)) j 0) m
+          ∙ get_or_append_left part (drop n (drop (16 * s) before)) 0 w (omega arith)
+          ∙ p w c;
+      low = λ k c. search (rules, places);
+      high = λ k c. search (rules, places);
+    }
 
 -- ---- those of each slot of a set, from the lowest up: `rest` are the slots still to come
 pub record PutAt (costs before : List ℕ) (all rest : ℕ) (now : List ℕ) : Type 0 where

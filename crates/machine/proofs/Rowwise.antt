@@ -6,7 +6,7 @@ use Rattle.machine.specs.declared.State.{State}
 use Rattle.machine.specs.declared.rows.Rows.{Rows}
 use Rattle.machine.specs.States.{live, deadline, remaining}
 use Rattle.machine.specs.Steps.{released, left_at, run_of, worked}
-use Rattle.machine.specs.Rows.{fresh_in, taken_apart, ticks_of, begun, state_after, with_run, rows_after}
+use Rattle.machine.specs.Rows.{fresh_in, taken_apart, ticks_of, begun, rest_begun, state_after, with_run, rest_run, rows_after}
 use Rattle.machine.proofs.Apart.{Apart, apart}
 use Rattle.machine.proofs.Begun.{Begun, begun_at, deadline_at, mid_rest, mid_left, rows_worked}
 
@@ -22,12 +22,15 @@ module _ (t : Table) (st : State) (named : ℕ) (many : length st.tasks ≡ 16) 
   at_first = taken_apart st
 
   abbrev mid : Rows
-  mid = begun t named (taken_apart st)
+  mid = begun t named st.remaining (taken_apart st)
+
+  abbrev rest : List ℕ
+  rest = rest_begun t named st.remaining (taken_apart st)
 
   pub its_rows : Apart st at_first.live at_first.deadlines at_first.waits
   its_rows = apart st many _ _ _ refl refl refl
 
-  its_step : Begun t st named (fresh_in at_first.live named) at_first.deadlines at_first.waits mid.deadlines mid.waits mid.remaining mid.work
+  its_step : Begun t st named (fresh_in at_first.live named) at_first.deadlines at_first.waits mid.deadlines mid.waits rest mid.work
   its_step = record { ends = refl; rests = refl; costs = refl; sums = refl }
 
   pub mid_lives : (i p : ℕ) → i < 16 → p < 4 → bit mid.live (16 * p + i) ≡ live (released t st named) i p
@@ -36,21 +39,21 @@ module _ (t : Table) (st : State) (named : ℕ) (many : length st.tasks ≡ 16) 
   pub mid_deadlines : (i p : ℕ) → i < 16 → p < 4 → live (released t st named) i p ≡ true → get_or mid.deadlines (16 * p + i) 0 ≡ deadline (released t st named) i p
   mid_deadlines = deadline_at t st named _ _ _ _ _ _ _ _ its_rows refl its_step
 
-  pub mid_remaining : (released t st named).remaining ≡ mid.remaining
+  pub mid_remaining : (released t st named).remaining ≡ rest
   mid_remaining = mid_rest t st named _ _ _ _ _ _ _ _ its_rows refl its_step
 
   pub mid_ticks : ticks_of mid ≡ row 64 (left_at (released t st named))
   mid_ticks = mid_left t st named _ _ _ _ _ _ _ _ its_rows refl its_step
 
   -- STEP 4
-  pub after_run : (chosen : List ℕ) → state_after (with_run chosen mid) ≡ worked t (released t st named) named chosen
+  pub after_run : (chosen : List ℕ) → state_after (with_run chosen rest mid) (rest_run chosen rest) ≡ worked t (released t st named) named chosen
   unfolding rows_after
   after_run chosen =
-      rows_worked t st named _ _ _ _ _ _ _ _ its_rows refl its_step chosen _ _ refl (λ other e. run_same (state_after mid) other (rest_of ∙ sym e) mid.work chosen)
+      rows_worked t st named _ _ _ _ _ _ _ _ its_rows refl its_step chosen _ _ refl (λ other e. run_same (state_after mid rest) other (rest_of ∙ sym e) mid.work chosen)
     where
-      rest_of : (state_after mid).remaining ≡ mid.remaining
+      rest_of : (state_after mid rest).remaining ≡ rest
       rest_of = refl
 
-  pub ran_rows : (chosen : List ℕ) → ((with_run chosen mid).remaining ≡ (worked t (released t st named) named chosen).remaining) × ((with_run chosen mid).work ≡ (worked t (released t st named) named chosen).work)
+  pub ran_rows : (chosen : List ℕ) → (rest_run chosen rest ≡ (worked t (released t st named) named chosen).remaining) × ((with_run chosen rest mid).work ≡ (worked t (released t st named) named chosen).work)
   unfolding rows_after
   ran_rows chosen = (ap (λ (s : State). s.remaining) (after_run chosen), ap (λ (s : State). s.work) (after_run chosen))

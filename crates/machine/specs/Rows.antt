@@ -140,7 +140,7 @@ unfoldable pub refusal_of : Bool → Phase → ℕ → ℕ → List ℕ → Resu
 refusal_of fits phase named n waits = pick fits (refusal_in phase named n waits) (Err (reply_of 30 255))
 
 -- ---- a state taken apart, as src/rows.rt has it, and what each step makes of its rows: the slots with a live job, their deadlines, 0 elsewhere, the
--- waits, and the two rows that a state has itself
+-- waits, and the work that a state has itself. What remains stays beside them, as `rest`.
 abbrev pub live_in : List TaskState → ℕ
 live_in states = set_of 64 (λ s. is_live (job_in states s))
 
@@ -151,7 +151,6 @@ taken_apart st = record {
   live = live_in st.tasks;
   deadlines = row 64 (λ s. pick (bit (live_in st.tasks) s) (deadline_of (job_in st.tasks s)) 0);
   waits = row 16 (λ i. (get_or st.tasks i no_task).wait);
-  remaining = st.remaining;
   work = st.work;
 }
 
@@ -159,36 +158,40 @@ taken_apart st = record {
 abbrev pub ticks_of : Rows → List ℕ
 ticks_of r = row 64 (λ s. pick (bit r.live s) (ticks_left (get_or r.deadlines s 0) r.clock) 0)
 
-abbrev pub rows_fit : Table → Rows → Bool
-rows_fit t r = fits_by r.phase t t.costs r.live (ticks_of r) r.waits r.work r.remaining
+abbrev pub rows_fit : Table → Rows → List ℕ → Bool
+rows_fit t r rest = fits_by r.phase t t.costs r.live (ticks_of r) r.waits r.work rest
 
 -- step 1
 abbrev pub fresh_in : ℕ → ℕ → ℕ
 fresh_in live named = set_of 64 (is_new_by live named)
 
-abbrev pub begun : Table → ℕ → Rows → Rows
-begun t named r = record {
+abbrev pub begun : Table → ℕ → List ℕ → Rows → Rows
+begun t named rest r = record {
   clock = r.clock;
   phase = r.phase;
   live = bit_or r.live (fresh_in r.live named);
   deadlines = begun_deadlines t r.clock (fresh_in r.live named) r.deadlines;
   waits = begun_waits t named r.waits;
-  remaining = begun_rest t.costs (fresh_in r.live named) r.remaining;
-  work = begun_work t.costs (fresh_in r.live named) r.remaining r.work;
+  work = begun_work t.costs (fresh_in r.live named) rest r.work;
 }
 
+abbrev pub rest_begun : Table → ℕ → List ℕ → Rows → List ℕ
+rest_begun t named rest r = begun_rest t.costs (fresh_in r.live named) rest
+
 -- the state after step 4 that rows make
-abbrev pub state_after : Rows → State
-state_after r = rows_after r.clock r.phase r.live r.deadlines r.waits r.remaining r.work
+abbrev pub state_after : Rows → List ℕ → State
+state_after r rest = rows_after r.clock r.phase r.live r.deadlines r.waits rest r.work
 
 -- step 4
-abbrev pub with_run : List ℕ → Rows → Rows
-with_run chosen r = record {
+abbrev pub with_run : List ℕ → List ℕ → Rows → Rows
+with_run chosen rest r = record {
   clock = r.clock;
   phase = r.phase;
   live = r.live;
   deadlines = r.deadlines;
   waits = r.waits;
-  remaining = row 1024 (λ k. pick (is_in (name_at k) chosen) (get_or r.remaining k 0 - 1) (get_or r.remaining k 0));
-  work = row 64 (λ s. get_or r.work s 0 - run_of (state_after r) (s % 16) (s / 16) chosen);
+  work = row 64 (λ s. get_or r.work s 0 - run_of (state_after r rest) (s % 16) (s / 16) chosen);
 }
+
+abbrev pub rest_run : List ℕ → List ℕ → List ℕ
+rest_run chosen rest = row 1024 (λ k. pick (is_in (name_at k) chosen) (get_or rest k 0 - 1) (get_or rest k 0))

@@ -9,13 +9,14 @@ ghost use Rattle.machine.specs.States.{live, deadline, left};
 ghost use Rattle.machine.specs.Steps.{available_sets, own_choice, listed};
 ghost use Rattle.machine.specs.Rows.{order_of, before_by, RanksFirst};
 
+use crate::rows::Rows;
 use crate::{Chosen, held};
 use graph::set::Members;
 use table::Table;
 
 // Step 2 at the slots of a set: the ready vertices of each; none elsewhere.
-pub(crate) fn sets_of(t: Table, live: u64, remaining: &[u32; 1024]) -> [u16; 64]
-    ensures { result ≡ row 64 (λ s. pick (bit live s) (set_of 16 (is_ready (task t (s % 16)).succ (task t (s % 16)).v remaining.now s)) 0) }
+pub(crate) fn sets_of(t: &Table, live: u64, remaining: &[u32; 1024]) -> [u16; 64]
+    ensures { result ≡ row 64 (λ s. pick (bit live s) (set_of 16 (is_ready (task t.now (s % 16)).succ (task t.now (s % 16)).v remaining.now s)) 0) }
 {
     let mut sets = [0u16; 64];
     for s in Members::of(live) {
@@ -103,20 +104,13 @@ pub(crate) fn choose(m: u8, begun: u64, given: [u16; 64], ticks: &[u32; 64]) -> 
     Chosen { keys, count: most }
 }
 
-// Steps 2 and 3: the machine's own choice, by the set of slots that are live once step 1 is made.
-pub(crate) fn own_choice(
-    t: Table,
-    clock: u32,
-    begun: u64,
-    deadlines: &[u32; 64],
-    remaining: &[u32; 1024],
-) -> Chosen
+// Steps 2 and 3: the machine's own choice, once step 1 is made.
+pub(crate) fn own_choice(t: Table, rows: &Rows, remaining: &[u32; 1024]) -> Chosen
     requires { t.m ≤ 8 }
-    ensures { (st : State) → st.clock ≡ clock → st.remaining ≡ remaining.now → ((i p : ℕ) → i < 16 → p < 4 → bit begun (16 * p + i) ≡ live st i p) → ((i p : ℕ) → i < 16 → p < 4 → live st i p ≡ true → slice_index deadlines.now (16 * p + i) ≡ deadline st i p) → listed result ≡ own_choice t st }
+    ensures { (st : State) → st.clock ≡ rows.now.clock → st.remaining ≡ remaining.now → ((i p : ℕ) → i < 16 → p < 4 → bit rows.now.live (16 * p + i) ≡ live st i p) → ((i p : ℕ) → i < 16 → p < 4 → live st i p ≡ true → slice_index rows.now.deadlines (16 * p + i) ≡ deadline st i p) → listed result ≡ own_choice t st }
 {
-    let left = held::left_of(deadlines, clock, begun);
-    let sets = sets_of(t, begun, remaining);
-    choose(t.m, begun, sets, &left)
+    let sets = sets_of(&t, rows.live, remaining);
+    choose(t.m, rows.live, sets, &rows.ticks_left())
 }
 
 // The vertices that a choice lists, none of them twice.

@@ -53,41 +53,41 @@ fn waits_fit(t: &Table, waits: &[u32; 16]) -> bool
 
 impl Rows {
     // A live slot of a task.
-    fn live_fits(&self, t: &Table, ticks: &[u32; 64], s: usize) -> bool
+    fn live_fits(&self, t: &Table, ticks: &[u32; 64], remaining: &[u32; 1024], s: usize) -> bool
         requires { s < 64 }
-        ensures { result ≡ live_by (slice_index_or t.now.tasks (s % 16) no_task) t.now.costs self.now.live ticks.now (slice_index self.now.waits (s % 16)) (slice_index self.now.work s) self.now.remaining s }
+        ensures { result ≡ live_by (slice_index_or t.now.tasks (s % 16) no_task) t.now.costs self.now.live ticks.now (slice_index self.now.waits (s % 16)) (slice_index self.now.work s) remaining.now s }
     {
         let task = t.tasks[s % 16];
         newest(self.live, ticks[s], task, self.waits[s % 16], s)
             && spaced(self.live, ticks, task.t, s)
-            && slots::job_fits(task, &t.costs, ticks[s], self.work[s], &self.remaining, s)
+            && slots::job_fits(task, &t.costs, ticks[s], self.work[s], remaining, s)
     }
 
     // A slot, live or not.
-    fn slot_fits(&self, t: &Table, ticks: &[u32; 64], s: usize) -> bool
+    fn slot_fits(&self, t: &Table, ticks: &[u32; 64], remaining: &[u32; 1024], s: usize) -> bool
         requires { s < 64 }
-        ensures { result ≡ slot_fits t.now.n (slice_index_or t.now.tasks (s % 16) no_task) t.now.costs self.now.live ticks.now (slice_index self.now.waits (s % 16)) (slice_index self.now.work s) self.now.remaining s }
+        ensures { result ≡ slot_fits t.now.n (slice_index_or t.now.tasks (s % 16) no_task) t.now.costs self.now.live ticks.now (slice_index self.now.waits (s % 16)) (slice_index self.now.work s) remaining.now s }
     {
         if (self.live >> s) % 2 != 1 {
-            return slots::zero_place(false, self.work[s], &self.remaining, s);
+            return slots::zero_place(false, self.work[s], remaining, s);
         }
-        s % 16 < usize::from(t.n) && self.live_fits(t, ticks, s)
+        s % 16 < usize::from(t.n) && self.live_fits(t, ticks, remaining, s)
     }
 
     // Each slot fits.
-    fn slots_fit(&self, t: &Table) -> bool
-        ensures { result ≡ all 64 (λ s. slot_fits t.now.n (slice_index_or t.now.tasks (s % 16) no_task) t.now.costs self.now.live (ticks_of self.now) (slice_index self.now.waits (s % 16)) (slice_index self.now.work s) self.now.remaining s) }
+    fn slots_fit(&self, t: &Table, remaining: &[u32; 1024]) -> bool
+        ensures { result ≡ all 64 (λ s. slot_fits t.now.n (slice_index_or t.now.tasks (s % 16) no_task) t.now.costs self.now.live (ticks_of self.now) (slice_index self.now.waits (s % 16)) (slice_index self.now.work s) remaining.now s) }
     {
         let ticks = self.ticks_left();
-        (0..64usize).all(|s| self.slot_fits(t, &ticks, s))
+        (0..64usize).all(|s| self.slot_fits(t, &ticks, remaining, s))
     }
 
     // Each slot is one of zeros.
-    fn all_zero(&self) -> bool
-        ensures { result ≡ all 64 (λ s. zero_place (bit self.now.live s) (slice_index self.now.work s) self.now.remaining s) }
+    fn all_zero(&self, remaining: &[u32; 1024]) -> bool
+        ensures { result ≡ all 64 (λ s. zero_place (bit self.now.live s) (slice_index self.now.work s) remaining.now s) }
     {
         (0..64usize).all(|s| {
-            slots::zero_place((self.live >> s) % 2 == 1, self.work[s], &self.remaining, s)
+            slots::zero_place((self.live >> s) % 2 == 1, self.work[s], remaining, s)
         })
     }
 
@@ -99,12 +99,12 @@ impl Rows {
     }
 
     // Whether a state, any numbers in it, fits a table.
-    pub(crate) fn fits(&self, t: &Table) -> bool
-        ensures { result ≡ rows_fit t.now self.now }
+    pub(crate) fn fits(&self, t: &Table, remaining: &[u32; 1024]) -> bool
+        ensures { result ≡ rows_fit t.now self.now remaining.now }
     {
         match self.phase {
-            Phase::Running => waits_fit(t, &self.waits) && self.slots_fit(t),
-            Phase::Stopped(at) => at < t.n && self.no_waits() && self.all_zero(),
+            Phase::Running => waits_fit(t, &self.waits) && self.slots_fit(t, remaining),
+            Phase::Stopped(at) => at < t.n && self.no_waits() && self.all_zero(remaining),
         }
     }
 }

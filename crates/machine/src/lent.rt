@@ -30,13 +30,9 @@ fn places_used(live: u64, i: usize) -> usize
     requires { i < 16 }
     ensures { result ≡ used_by live i }
 {
-    let mut count: usize = 0;
-    for p in 0..4usize {
-        if (live >> (16 * p + i)) % 2 == 1 {
-            count += 1;
-        }
-    }
-    count
+    (0..4usize)
+        .filter(|p| (live >> (16 * *p + i)) % 2 == 1)
+        .count()
 }
 
 // Whether a slot gets a new job: its task is named, and it is the first place that is not in use.
@@ -88,10 +84,8 @@ fn put_slot(costs: &[u32; 256], s: usize, remaining: &mut [u32; 1024])
     requires { s < 64 }
     ensures { remaining.new ≡ row 1024 (λ k. pick (k / 16 == s) (slice_index costs.now (k % 256)) (slice_index remaining.old k)) }
 {
-    for u in 0..16usize {
-        let k = 16 * s + u;
-        remaining[k] = costs[k % 256];
-    }
+    let task = s % 16;
+    remaining[16 * s..16 * s + 16].copy_from_slice(&costs[16 * task..16 * task + 16]);
 }
 
 // Step 1 of what remains: the costs at each new slot.

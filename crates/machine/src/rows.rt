@@ -1,8 +1,9 @@
-// A state taken apart for a tick: its rows, changed where they lie, step by step. Slot 16 * p + i is age place p of task i.
+// A state taken apart for a tick: its rows, changed where they lie, step by step. Slot 16 * p + i is age place p of task i. What remains of the
+// vertices, four thousand bytes, stays beside them: a struct of that size is cleared before it is filled, a tenth more instructions a tick.
 ghost use Rattle.std.specs.Prelude.{◌≡◌, ◌+◌, ◌*◌, ◌⊎◌, ◌&&◌, ◌==◌, slice_index};
 ghost use Rattle.graph.specs.Words.{bit, Distinct, set_of};
 ghost use Rattle.machine.specs.Steps.{any_place, listed};
-ghost use Rattle.machine.specs.Rows.{taken_apart, ticks_of, begun, with_run, state_after, Tidy};
+ghost use Rattle.machine.specs.Rows.{taken_apart, ticks_of, begun, rest_begun, with_run, rest_run, state_after, Tidy};
 ghost use Rattle.machine.specs.Ticking.{advance_to};
 
 use crate::{Answer, Chosen, Phase, State, Ticked, closing, held, lent, opening};
@@ -18,7 +19,6 @@ pub(crate) struct Rows {
     pub(crate) deadlines: [u32; 64],
     // Each task's wait.
     pub(crate) waits: [u32; 16],
-    pub(crate) remaining: [u32; 1024],
     pub(crate) work: [u64; 64],
 }
 
@@ -33,7 +33,6 @@ impl Rows {
             live,
             deadlines: held::deadlines_of(st.tasks, live),
             waits: held::waits_of(st.tasks),
-            remaining: st.remaining,
             work: st.work,
         }
     }
@@ -46,23 +45,23 @@ impl Rows {
     }
 
     // Step 1.
-    pub(crate) fn release(&mut self, t: Table, named: u16)
-        ensures { self.new ≡ begun t named self.old }
+    pub(crate) fn release(&mut self, t: Table, named: u16, remaining: &mut [u32; 1024])
+        ensures { (self.new ≡ begun t named remaining.old self.old) × (remaining.new ≡ rest_begun t named remaining.old self.old) }
     {
         let fresh = lent::fresh(self.live, named);
         lent::begin(t, self.clock, fresh, &mut self.deadlines);
         lent::wait_anew(t, named, &mut self.waits);
-        lent::put_costs(&t.costs, fresh, &mut self.remaining);
-        lent::put_work(&self.remaining, fresh, &mut self.work);
+        lent::put_costs(&t.costs, fresh, remaining);
+        lent::put_work(remaining, fresh, &mut self.work);
         self.live |= fresh;
     }
 
     // Step 4, of vertices none of which is listed twice.
-    pub(crate) fn run(&mut self, chosen: Chosen)
+    pub(crate) fn run(&mut self, chosen: Chosen, remaining: &mut [u32; 1024])
         requires { Distinct (listed chosen) }
-        ensures { self.new ≡ with_run (listed chosen) self.old }
+        ensures { (self.new ≡ with_run (listed chosen) remaining.old self.old) × (remaining.new ≡ rest_run (listed chosen) remaining.old) }
     {
-        lent::run(chosen, &mut self.remaining, &mut self.work);
+        lent::run(chosen, remaining, &mut self.work);
     }
 
     // The live slots with no work left.
@@ -74,17 +73,23 @@ impl Rows {
 
     // Steps 5 and 6, of the state after step 4: the slots in `done` have ended, and the tasks in `gaps` are closed up. That is every task, or, where
     // the rows are tidy, those of which a job ended.
-    pub(crate) fn told(&mut self, chosen: Chosen, done: u64, gaps: u16) -> Ticked
+    pub(crate) fn told(
+        &mut self,
+        chosen: Chosen,
+        done: u64,
+        gaps: u16,
+        remaining: &mut [u32; 1024],
+    ) -> Ticked
         requires ended { done ≡ set_of 64 (λ s. bit self.old.live s && slice_index self.old.work s == 0) }
-        requires closed { (gaps ≡ 65535) ⊎ ((gaps ≡ set_of 16 (λ i. any_place (λ p. bit done (16 * p + i)))) × Tidy self.old.live self.old.remaining self.old.work) }
-        ensures { result ≡ advance_to (listed chosen) (state_after self.old) }
+        requires closed { (gaps ≡ 65535) ⊎ ((gaps ≡ set_of 16 (λ i. any_place (λ p. bit done (16 * p + i)))) × Tidy self.old.live remaining.old self.old.work) }
+        ensures { result ≡ advance_to (listed chosen) (state_after self.old remaining.old) }
     {
         let over = closing::tasks_in(done);
         let live = closing::close(
             gaps,
             self.live & !done,
             &mut self.deadlines,
-            &mut self.remaining,
+            remaining,
             &mut self.work,
         );
         let next = self.clock.wrapping_add(1);
@@ -99,7 +104,7 @@ impl Rows {
                     clock: next,
                     phase: self.phase,
                     tasks: held::together(live, &self.deadlines, &self.waits),
-                    remaining: self.remaining,
+                    remaining: *remaining,
                     work: self.work,
                 },
             },

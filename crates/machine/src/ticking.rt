@@ -37,11 +37,11 @@ pub fn first_early(named: u16, n: u8, st: State) -> Option<u8>
 }
 
 // 30, 32, 31 and 33, in this order.
-fn refusal(t: &Table, rows: &Rows, named: u16) -> Result<(), Reply>
+fn refusal(t: &Table, rows: &Rows, remaining: &[u32; 1024], named: u16) -> Result<(), Reply>
     requires { t.now.n ≤ 16 }
-    ensures { result ≡ refusal_of (rows_fit t.now rows.now) rows.now.phase named t.now.n rows.now.waits }
+    ensures { result ≡ refusal_of (rows_fit t.now rows.now remaining.now) rows.now.phase named t.now.n rows.now.waits }
 {
-    if !rows.fits(t) {
+    if !rows.fits(t, remaining) {
         return Err(Reply::of(30, 255));
     }
     let Phase::Running = rows.phase else {
@@ -57,40 +57,40 @@ fn refusal(t: &Table, rows: &Rows, named: u16) -> Result<(), Reply>
 }
 
 // The tick on a table.
-pub(crate) fn tick_on(t: Table, st: State, named: u16) -> Ticked
+pub(crate) fn tick_on(t: Table, mut st: State, named: u16) -> Ticked
     requires { GoodTable t }
     ensures { result ≡ tick_on own_choice t st named }
 {
     let mut rows = Rows::of(&st);
-    if let Err(reply) = refusal(&t, &rows, named) {
+    if let Err(reply) = refusal(&t, &rows, &st.remaining, named) {
         return Ticked::refused(st, reply);
     }
-    rows.release(t, named);
-    let chosen = choosing::own_choice(t, rows.clock, rows.live, &rows.deadlines, &rows.remaining);
-    rows.run(chosen);
+    rows.release(t, named, &mut st.remaining);
+    let chosen = choosing::own_choice(t, &rows, &st.remaining);
+    rows.run(chosen, &mut st.remaining);
     let done = rows.done();
-    rows.told(chosen, done, closing::tasks_in(done))
+    rows.told(chosen, done, closing::tasks_in(done), &mut st.remaining)
 }
 
 // Steps 1, 4, 5 and 6, with the vertices that a choice lists; one that is listed twice runs once. Any state is taken, so every gap is closed.
-pub fn advance(t: Table, st: State, named: u16, chosen: Chosen) -> Ticked
+pub fn advance(t: Table, mut st: State, named: u16, chosen: Chosen) -> Ticked
     ensures { result ≡ advance t st named (listed chosen) }
 {
     let mut rows = Rows::of(&st);
-    rows.release(t, named);
-    rows.run(choosing::once(chosen));
+    rows.release(t, named, &mut st.remaining);
+    rows.run(choosing::once(chosen), &mut st.remaining);
     let done = rows.done();
-    rows.told(chosen, done, u16::MAX)
+    rows.told(chosen, done, u16::MAX, &mut st.remaining)
 }
 
 // Step 2, once step 1 is made, and what step 3 ranks by.
-pub fn offered(t: Table, st: State, named: u16) -> Offer
+pub fn offered(t: Table, mut st: State, named: u16) -> Offer
     ensures { result ≡ offered t st named }
 {
     let mut rows = Rows::of(&st);
-    rows.release(t, named);
+    rows.release(t, named, &mut st.remaining);
     Offer {
-        sets: choosing::sets_of(t, rows.live, &rows.remaining),
+        sets: choosing::sets_of(&t, rows.live, &st.remaining),
         left: rows.ticks_left(),
     }
 }

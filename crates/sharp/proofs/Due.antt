@@ -19,7 +19,7 @@ use Rattle.table.specs.declared.Table.{Table}
 use Rattle.table.specs.Memory.{vertices, D, T, succ, edge_in, cost}
 use Rattle.table.specs.Good.{GoodTable}
 use Rattle.verdict.specs.Verdicts.{vol, len, rounded_up, due}
-use Rattle.verdict.proofs.Amounts.{sum_most, sum_but_one, sum_part, up_most, along_most, climbs, own_jobs, due_bound}
+use Rattle.verdict.proofs.Amounts.{sum_most, sum_but_one, sum_part, up_most, along_most, climbs, own_jobs}
 use Rattle.sharp.specs.Sharp.{tail_of, asked, due_from, sharp_due}
 use Rattle.sharp.proofs.Sums.{sum_const}
 use Rattle.sharp.proofs.Tails.{tail_means}
@@ -52,11 +52,6 @@ module _ (t : Table) (k : ℕ) where
   pub sharp_within : sharp_due t k ≤ due t k
   unfolding sharp_due due
   sharp_within = sum_le t.n _ _ (λ i l. from_within i)
-
--- so is that of the first tasks, as code needs it
-pub sharp_part : (t : Table) → GoodTable t → (k j : ℕ) → k < t.n → j ≤ t.n → sum j (due_from t k) ≤ 240000064000000
-unfolding sharp_due
-sharp_part t good k j b l = omega (arith, sum_part j t.n (due_from t k) l, sharp_within t k, due_bound t good k b)
 
 four : (f : ℕ → ℕ) → sum 4 f ≡ f 0 + f 1 + f 2 + f 3
 unfolding sum

@@ -4,7 +4,6 @@ ghost use Rattle.table.specs.Good.{GoodTable};
 ghost use Rattle.sharp.specs.Sharp.{sharp_findings_on, sharp_findings};
 
 use crate::gathering::Gathering;
-use crate::judging;
 use table::{Outcome, Table};
 use verdict::Findings;
 
@@ -16,7 +15,7 @@ fn sharp_findings_on(t: &Table) -> Findings
     let mut tails = [0u32; 256];
     let x = Gathering::of(t, &mut tails);
     let dues = x.dues();
-    let verdict = judging::chained(t, x.judged());
+    let verdict = verdict::chained(t, x.judged());
     let deadlines = x.deadlines;
     let vols = x.vols;
     let lens = x.lens;

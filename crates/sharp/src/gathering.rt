@@ -98,12 +98,7 @@ impl<'a> Gathering<'a> {
     fn first_late(&self) -> Option<usize>
         ensures { MatchOption result (NoneLate self.now) (FirstLate self.now) }
     {
-        for k in 0..usize::from(self.n) {
-            if u64::from(self.deadlines[k]) < self.lens[k] {
-                return Some(k);
-            }
-        }
-        None
+        (0..usize::from(self.n)).find(|k| u64::from(self.deadlines[*k]) < self.lens[*k])
     }
 
     // The sharp verdict on the table, before a chain is looked for. A chain that is too long is looked for over all tasks first.

@@ -1,22 +1,11 @@
 // The sharp verdict on a table and on a file: document 02, M-107.
 ghost use Rattle.std.specs.Prelude.{◌≡◌};
 ghost use Rattle.table.specs.Good.{GoodTable};
-ghost use Rattle.verdict.specs.Measured.{decided};
 ghost use Rattle.sharp.specs.Sharp.{sharp_on, sharp};
 
 use crate::gathering::Gathering;
 use table::{Outcome, Table};
-use verdict::{Decided, Verdict};
-
-// The sharp verdict on a good table when its task is known: that task's chain is looked for, and no other's.
-pub(crate) fn chained(t: &Table, d: Decided) -> Verdict
-    requires { GoodTable t.now × (d ≡ decided (sharp_on t.now)) }
-    ensures { result ≡ sharp_on t.now }
-{
-    let k = usize::from(d.task);
-    let own = verdict::own_costs(&t.costs, k);
-    verdict::with_chain(d, t.tasks[k].succ, own)
-}
+use verdict::Verdict;
 
 // The sharp verdict on a good table.
 fn sharp_on(t: &Table) -> Verdict
@@ -25,7 +14,7 @@ fn sharp_on(t: &Table) -> Verdict
 {
     let mut tails = [0u32; 256];
     let x = Gathering::of(t, &mut tails);
-    chained(t, x.judged())
+    verdict::chained(t, x.judged())
 }
 
 // The sharp verdict on a file.

@@ -22,9 +22,6 @@ pub sum_next : (n : ℕ) (f : ℕ → ℕ) → sum (n + 1) f ≡ sum n f + f n
 unfolding sum
 sum_next n f = ap (λ (k : ℕ). sum k f) (add-one n)
 
-pub sum_done : (s n x : ℕ) (f : ℕ → ℕ) → s ≡ n → x ≡ sum s f → x ≡ sum n f
-sum_done s n x f e h = h ∙ ap (λ (k : ℕ). sum k f) e
-
 -- it is 0 exactly if each number is
 pub sum_zero : (n : ℕ) (f : ℕ → ℕ) → eqb (sum n f) 0 ≡ all n (λ u. eqb (f u) 0)
 sum_zero n f = elim (ℕ_discrete (sum n f) 0) [

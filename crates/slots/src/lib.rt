@@ -2,11 +2,19 @@
 // what remains of its vertex u lies at 16 times slot plus u.
 #![tactic(auto)]
 
-ghost use Rattle.std.specs.Prelude.{◌≡◌, ◌&&◌, ◌||◌, not, ℕ, ◌≤◌, ◌<◌, min, eqb};
+ghost use Rattle.std.specs.Prelude.{◌≡◌, ◌&&◌, ◌||◌, not, ℕ, ◌*◌, ◌≤◌, ◌<◌, eqb, length, take, drop};
 ghost use Rattle.graph.specs.Words.{bit, all, set_of};
-ghost use Rattle.slots.specs.Slots.{at, cost_at, nothing_left, work_left, something_left, is_ready, within_cost, job_fits, zero_place};
+ghost use Rattle.slots.specs.Slots.{at, cost_at, nothing_left, work_left, something_left, is_ready, within_cost, whole_behind, job_fits, zero_place};
 
 use table::Task;
+
+// The sixteen numbers of one of the sixty-four slots.
+fn of_slot(remaining: &[u32; 1024], s: usize) -> &[u32]
+    requires { s < 64 }
+    ensures { (result.now ≡ take 16 (drop (16 * s) remaining.now)) × (length result.now ≡ 16) }
+{
+    &remaining[16 * s..16 * s + 16]
+}
 
 // Whether nothing remains of slot s: its sixteen numbers or-ed together, with no branch in between.
 pub fn nothing_left(remaining: &[u32; 1024], s: usize) -> bool
@@ -15,18 +23,7 @@ pub fn nothing_left(remaining: &[u32; 1024], s: usize) -> bool
     if s >= 64 {
         return true;
     }
-    let mut any: u32 = 0;
-    for u in 0..16usize {
-        any |= remaining[16 * s + u];
-    }
-    any == 0
-}
-
-// What remains of a vertex, in 64 bits.
-fn wide(x: u32) -> u64
-    ensures { (result ≡ x) × (result < 4294967296) }
-{
-    x as u64
+    of_slot(remaining, s).iter().fold(0, |any, left| any | left) == 0
 }
 
 // What remains of slot s: its sixteen numbers added up.
@@ -36,11 +33,8 @@ pub fn work_left(remaining: &[u32; 1024], s: usize) -> u64
     if s >= 64 {
         return 0;
     }
-    let mut work: u64 = 0;
-    for u in 0..16usize {
-        work += wide(remaining[16 * s + u]);
-    }
-    work
+    let slot = of_slot(remaining, s);
+    slot.iter().map(|left| u64::from(*left)).sum()
 }
 
 // The vertices of slot s of which something remains.
@@ -50,10 +44,10 @@ pub fn unfinished(remaining: &[u32; 1024], s: usize) -> u16
     if s >= 64 {
         return 0;
     }
-    let mut set: u16 = 0;
-    for u in 0..16usize {
-        if remaining[16 * s + u] != 0 {
-            set |= 1u16 << u;
+    let mut set = 0;
+    for (u, left) in of_slot(remaining, s).iter().enumerate() {
+        if *left != 0 {
+            set |= 1 << u;
         }
     }
     set
@@ -71,13 +65,7 @@ pub fn ready(succ: [u16; 16], v: usize, remaining: &[u32; 1024], s: usize) -> u1
 pub fn zero_place(live: bool, work: u64, remaining: &[u32; 1024], s: usize) -> bool
     ensures { result ≡ zero_place live work remaining.now s }
 {
-    if live {
-        return false;
-    }
-    if work != 0 {
-        return false;
-    }
-    nothing_left(remaining, s)
+    !live && work == 0 && nothing_left(remaining, s)
 }
 
 // No remaining above its cost.
@@ -85,23 +73,13 @@ fn within_cost(costs: &[u32; 256], remaining: &[u32; 1024], s: usize) -> bool
     requires { s < 64 }
     ensures { result ≡ within_cost costs.now remaining.now s }
 {
-    for u in 0..16usize {
+    for u in 0..16 {
         let k = 16 * s + u;
         if remaining[k] > costs[k % 256] {
             return false;
         }
     }
     true
-}
-
-// How many of the sixteen vertices are used.
-fn used(v: u8) -> usize
-    ensures { result ≡ min v 16 }
-{
-    if v < 16 {
-        return v as usize;
-    }
-    16
 }
 
 // Each of the first v vertices that is in a set has its whole cost remaining.
@@ -118,6 +96,16 @@ fn whole_in(set: u16, v: usize, costs: &[u32; 256], remaining: &[u32; 1024], s: 
     true
 }
 
+// Each vertex with a predecessor that is not done has its whole cost remaining.
+fn whole_behind(a: Task, costs: &[u32; 256], remaining: &[u32; 1024], s: usize) -> bool
+    requires { s < 64 }
+    ensures { result ≡ whole_behind a costs.now remaining.now s }
+{
+    let v = usize::from(a.v).min(16);
+    let behind = graph::held_back(a.succ, v, unfinished(remaining, s));
+    whole_in(behind, v, costs, remaining, s)
+}
+
 // A live job of a task with these ticks left and this work.
 pub fn job_fits(
     a: Task,
@@ -129,26 +117,8 @@ pub fn job_fits(
 ) -> bool
     ensures { result ≡ job_fits a costs.now ticks work remaining.now s }
 {
-    if ticks < 1 {
+    if ticks < 1 || ticks >= a.d || work == 0 || work != work_left(remaining, s) || s >= 64 {
         return false;
     }
-    if ticks >= a.d {
-        return false;
-    }
-    if work == 0 {
-        return false;
-    }
-    if work != work_left(remaining, s) {
-        return false;
-    }
-    if s >= 64 {
-        return false;
-    }
-    if !within_cost(costs, remaining, s) {
-        return false;
-    }
-    let v = used(a.v);
-    let succ = a.succ;
-    let behind = graph::held_back(succ, v, unfinished(remaining, s));
-    whole_in(behind, v, costs, remaining, s)
+    within_cost(costs, remaining, s) && whole_behind(a, costs, remaining, s)
 }

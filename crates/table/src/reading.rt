@@ -1,7 +1,6 @@
 // Reading the task records and the table: document 01, "The table file".
-ghost use Rattle.std.specs.Prelude.{◌≡◌, ◌*◌, ◌≤◌, ◌<◌, length, MatchResult};
-ghost use Rattle.table.specs.declared.Outcome.TheVariants.{Read};
-ghost use Rattle.table.specs.Memory.{no_tasks, no_row, no_table};
+ghost use Rattle.std.specs.Prelude.{◌≡◌, ◌*◌, ◌≤◌, ◌<◌, length};
+ghost use Rattle.table.specs.Memory.{zero_task, no_table};
 ghost use Rattle.table.specs.Reading.{task_at, bad_table, tasks_at, table_at, refused, read};
 ghost use Rattle.table.specs.Parts.{found, InRow, ZeroFrom, head_at, TasksRead};
 
@@ -14,6 +13,13 @@ const NONE: Task = Task {
     t: 0,
     succ: [0u16; 16],
 };
+
+// The same by a call: where a refusal's table is made of it, reading takes less stack.
+fn zero_task() -> Task
+    ensures { result ≡ zero_task }
+{
+    NONE
+}
 
 // A task whose costs went to the table's row, and the place after it.
 #[derive(Clone, Copy)]
@@ -33,10 +39,11 @@ struct Head {
 fn no_table() -> Table
     ensures { result ≡ no_table }
 {
+    let none = zero_task();
     Table {
         m: 0,
         n: 0,
-        tasks: [NONE; 16],
+        tasks: [none; 16],
         costs: [0u32; 256],
     }
 }
@@ -134,7 +141,7 @@ fn refusal(outcome: Outcome) -> Loaded
     }
 }
 
-// A file: one table, then the end.
+// A file: one table, then the end. The table is filled where it stays.
 pub fn read(bytes: &[u8]) -> Loaded
     ensures { result ≡ read bytes.now }
 {

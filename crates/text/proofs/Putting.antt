@@ -1,4 +1,4 @@
--- List after list, how long they are together, and zeros behind the last.
+-- What a test leaves of a text; list after list, how long they are together, and zeros behind the last.
 use mathlib.Core.Path.{◌≡◌, refl, sym, ap, ◌∙◌}
 use mathlib.Core.List.{List, [], ◌++◌, append-nil, append_assoc}
 use Prim.Native.Nat.{ℕ, zero, suc, ◌+◌, ◌*◌, ◌-◌, ◌≤◌, ◌<◌}
@@ -6,9 +6,18 @@ use native.Mathlib.Omega.{arith}
 use native.Mathlib.Nat.{add-zero, zero-add, mul-suc}
 use native.Mathlib.Numerals.{add-one}
 use lib.ListN.{length, drop, replicate, length-append, length-replicate}
-use Rattle.graph.specs.Words.{join_from, in_order}
+use lib.Dec.{eqb}
+use borrow.Author.Tests.{eq-eqb, ne_eqb}
+use Rattle.graph.specs.Words.{pick, join_from, in_order}
 use Rattle.text.specs.Laid.{laid}
 use Rattle.text.proofs.Laying.{laid_front}
+
+-- ---- a test on a number passed, or did not
+pub said : (n k : ℕ) (x y : List ℕ) → n ≡ k → x ≡ pick (eqb n k) x y
+said n k x y e = rw (eq-eqb n k e)
+
+pub said_not : (n k : ℕ) (x y : List ℕ) → (n ≡ k → ⊥) → y ≡ pick (eqb n k) x y
+said_not n k x y e = rw (ne_eqb n k e)
 
 -- ---- list after list
 join_more : (k i : ℕ) (f : ℕ → List ℕ) → join_from k i f ++ f (i + k) ≡ join_from (suc k) i f

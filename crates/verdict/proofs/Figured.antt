@@ -2,26 +2,25 @@
 use mathlib.Core.Path.{◌≡◌, refl, sym, ap, ap₂, ◌∙◌}
 use mathlib.Core.Bool.{Bool, true, false, cond}
 use mathlib.Core.List.{List}
-use Prim.Native.Nat.{ℕ, zero, suc, ◌+◌, ◌*◌, ◌-◌, ◌/◌, ◌^◌, ◌≤◌, ◌<◌, min}
+use Prim.Native.Nat.{ℕ, zero, suc, ◌+◌, ◌*◌, ◌-◌, ◌^◌, ◌≤◌, ◌<◌, min}
 use native.Mathlib.Omega.{arith}
-use native.Mathlib.Nat.{mul-le-mul, div-le_self}
+use native.Mathlib.Nat.{mul-le-mul}
 use native.Mathlib.Numerals.{add-one}
 use native.Mathlib.Decide.{ℕ_discrete, dec_lt}
 use lib.Dec.{ltb}
 use lib.ListN.{length, get_or, set, length-set, take, drop, length-take, length-drop, replicate, get_or-replicate, length-replicate}
 use lib.Seq.{get_or-set_same, get_or-set_other, get_or-take, get_or-drop, ext_get_or}
 use lib.IntN.{ℤ, pos, negsuc, ◌-ℤ◌}
-use lib.Signed.{mag, lt_z}
+use lib.Signed.{mag}
 use mir.Syntax.{w64}
-use mir.Val.{Fits, SFits, to_z, of_z}
-use mir.Facts.{to_z_pos, to_z-of_z}
+use mir.Val.{Fits, SFits, to_z}
+use mir.Facts.{to_z_pos}
 use borrow.Author.Tests.{lt-ltb, ltb-true, ltb-false}
 use Rattle.graph.specs.Words.{pick, sum, row}
 use Rattle.graph.specs.Graph.{longest_of}
 use Rattle.graph.proofs.Facts.{sum_same, sum_upto, length_row, row_at, past_end}
 use Rattle.graph.proofs.Narrow.{longest_of_is}
-use Rattle.chains.specs.declared.ChainFound.{ChainFound}
-use Rattle.chains.specs.Chains.{chain_of, answered, longest_chain}
+use Rattle.chains.specs.Chains.{chain_of}
 use Rattle.chains.proofs.Named.{chain_of_is}
 use Rattle.table.specs.declared.Table.{Table}
 use Rattle.table.specs.Memory.{vertices, D, T, succ, edge_in, cost}
@@ -121,43 +120,11 @@ module _ (t : Table) (good : GoodTable t) (k : ℕ) (b : k < t.n) where
       chain_of_is (vertices t k) (succ t k) (row 16 (λ u. get_or t.costs (16 * k + u) 0)) (cost t k) g.v_low g.v_high g.no_cycle
       (λ u w e. let q = g.ends u w e in (q.0, q.1)) (λ u h. row_at 16 (λ u. get_or t.costs (16 * k + u) 0) u 0 h) g.unused
 
-  -- so is the answer that carries both
-  pub answer_found : (r : ChainFound) → r ≡ longest_chain (succ t k) (row 16 (λ u. get_or t.costs (16 * k + u) 0)) → r ≡ answered (len t k) (chain t k)
-  unfolding longest_chain
-  answer_found r e = e ∙ ap₂ answered (len_found _ refl) chain_found
-
   -- what is due, over rows that hold the periods and the vols
   pub due_found : (times vols : List ℕ) → ((i : ℕ) → i < t.n → get_or times i 0 ≡ T t i) → ((i : ℕ) → i < t.n → get_or vols i 0 ≡ vol t i)
       → (y : ℕ) → y ≡ sum t.n (λ i. rounded_up (D t k) (get_or times i 0) * get_or vols i 0) → y ≡ due t k
   unfolding due
   due_found times vols p q y e = e ∙ sum_same t.n _ _ (λ i h. ap₂ (λ (x y : ℕ). rounded_up (D t k) x * y) (p i h) (q i h))
-
-  -- what `due_of` requires
-  pub due_ready : (times vols : List ℕ) → ((i : ℕ) → i < t.n → get_or times i 0 ≡ T t i) → ((i : ℕ) → i < t.n → get_or vols i 0 ≡ vol t i)
-      → (t.n ≤ 16) × (D t k ≤ 1000000)
-      × ((i : ℕ) → i < t.n → (1 ≤ get_or times i 0) × (get_or times i 0 ≤ 1000000) × (get_or vols i 0 ≤ 16000000))
-  due_ready times vols p q = (
-    good.n_high,
-    (good.each k b).D_high,
-    λ i h.
-        let g = good.each i h in
-        (omega (arith, g.T_low, p i h), omega (arith, g.T_high, p i h), omega (arith, vol_high t good i h, q i h)),
-  )
-
-  -- what `margin_of` requires, and what it then gives
-  module _ (x y : ℕ) (l : x ≡ len t k) (d : y ≡ due t k) where
-    pub margin_ready : (1 ≤ t.m) × (t.m ≤ 8) × (D t k ≤ 1000000) × (x ≤ 16000000) × (y ≤ 240000064000000)
-    margin_ready = (
-      good.m_low,
-      good.m_high,
-      (good.each k b).D_high,
-      omega (arith, len_vol t good k b, vol_high t good k b),
-      omega (arith, due_bound t good k b),
-    )
-
-    pub margin_found : (z : ℤ) → z ≡ pos (t.m * D t k) -ℤ pos ((t.m - 1) * x + y) → z ≡ margin t k
-    unfolding margin
-    margin_found z e = e ∙ ap₂ (λ (x y : ℕ). pos (t.m * D t k) -ℤ pos ((t.m - 1) * x + y)) l d
 
   -- the same by a table's measures
   module _ (x : Measures) (h : Holds t x) where
@@ -192,20 +159,11 @@ in_range t good deadlines periods vols d p v = (
 )
 
 -- ---- what the code computes stays small, whatever the numbers are
-pub quotient_fits : (x y : ℕ) → x < 2 ^ 32 → Fits w64 (x / y)
-quotient_fits x y h = record { fits = omega (arith, div-le_self x y) }
-
 pub product_small : (a b : ℕ) → a ≤ 8 → b ≤ 16000000 → a * b < 2 ^ 62
 product_small a b h k = omega (arith, mul-le-mul {n₂ = 8} {m₂ = 16000000} h k)
 
-pub spent_small : (a b c : ℕ) → a ≤ 8 → b ≤ 16000000 → c ≤ 240000064000000 → a * b + c < 2 ^ 62
-spent_small a b c h k l = omega (arith, mul-le-mul {n₂ = 8} {m₂ = 16000000} h k)
-
 pub product_fits : (a b : ℕ) → a ≤ 8 → b ≤ 16000000 → Fits w64 (a * b)
 product_fits a b h k = record { fits = omega (arith, product_small a b h k) }
-
-pub spent_fits : (a b c : ℕ) → a ≤ 8 → b ≤ 16000000 → c ≤ 240000064000000 → Fits w64 (a * b + c)
-spent_fits a b c h k l = record { fits = omega (arith, spent_small a b c h k l) }
 
 -- (m minus 1) times what is at most 2 ^ 53, and as much again
 pub spent_within : (f x y : ℕ) → f ≤ 254 → x ≤ 2 ^ 53 → y ≤ 2 ^ 53 → f * x + y < 2 ^ 61
@@ -229,7 +187,3 @@ minus_fits {a} {b} h k = record { sfits = omega (arith, minus_mag a b) }
 -- what the code `(a as i64) - (b as i64)` computes
 pub cast_minus : {a b : ℕ} → a < 2 ^ 62 → b < 2 ^ 62 → pos a -ℤ pos b ≡ to_z w64 a -ℤ to_z w64 b
 cast_minus {a} {b} h k = sym (ap₂ (λ (x y : ℤ). x -ℤ y) (to_z_pos w64 {n = a} (omega arith)) (to_z_pos w64 {n = b} (omega arith)))
-
--- a test that the code makes on the bits of signed numbers, as a test of the numbers
-pub signed_test : {a b : ℤ} {c : Bool} → SFits w64 a → SFits w64 b → lt_z (to_z w64 (of_z w64 a)) (to_z w64 (of_z w64 b)) ≡ c → lt_z a b ≡ c
-signed_test fa fb e = sym (ap₂ lt_z (to_z-of_z fa) (to_z-of_z fb)) ∙ e

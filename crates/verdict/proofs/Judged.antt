@@ -1,5 +1,5 @@
 -- The verdict that the code's search over a good table's margins comes to; what it answers of a file.
-use mathlib.Core.Path.{◌≡◌, refl, sym, ap, ap₂, ◌∙◌}
+use mathlib.Core.Path.{◌≡◌, sym, ap, ap₂, ◌∙◌}
 use mathlib.Core.Bool.{true}
 use mathlib.Core.List.{List}
 use Prim.Native.Nat.{ℕ, ◌+◌, ◌*◌, ◌≤◌, ◌<◌}
@@ -11,10 +11,10 @@ use borrow.Author.Tests.{lt-ltb, le-ltb}
 use Rattle.graph.specs.Words.{all, row, lowest}
 use Rattle.table.specs.declared.Table.{Table}
 use Rattle.table.specs.declared.Outcome.{Outcome}
-use Rattle.table.specs.declared.Outcome.TheVariants.{Read, Short, Mark, Range, Ticks, Order, Edge, Cycle, Extra}
+use Rattle.table.specs.declared.Outcome.TheVariants.{Read}
 use Rattle.table.specs.declared.Loaded.{Loaded}
 use Rattle.table.specs.Memory.{succ}
-use Rattle.table.specs.Reading.{when_read, read}
+use Rattle.table.specs.Reading.{read}
 use Rattle.table.specs.Good.{GoodTable}
 use Rattle.table.proofs.Sound.{read_good}
 use Rattle.table.proofs.PartLaws.{told_other, not_read}
@@ -85,30 +85,6 @@ pub all_found : (t : Table) (x : Measures) (dues : List ℕ) (v : Verdict) → H
     → (record { outcome = Read; m = x.m; n = x.n; deadlines = x.deadlines; vols = x.vols; lens = x.lens; dues = dues; verdict = v }) ≡ findings_on t
 unfolding findings_on
 all_found t x dues v h d e = rw (h.m_is, h.n_is, h.deadlines_are, h.vols_are, h.lens_are, d, e)
-
-found_outcome : (o : Outcome) (t : Table) → (when_read o no_findings (λ _. findings_on t)).outcome ≡ o
-unfolding findings_on no_findings
-found_outcome Read t = refl
-found_outcome (Short p) t = refl
-found_outcome (Mark p) t = refl
-found_outcome (Range p) t = refl
-found_outcome (Ticks p) t = refl
-found_outcome (Order p) t = refl
-found_outcome (Edge p) t = refl
-found_outcome (Cycle p) t = refl
-found_outcome (Extra p) t = refl
-
-module _ (s : List ℕ) (f : Findings) (h : f ≡ findings s) where
-  pub its_outcome : f.outcome ≡ (read s).outcome
-  unfolding findings findings_read
-  its_outcome = ap (λ (x : Findings). x.outcome) h ∙ found_outcome (read s).outcome (read s).table
-
-  pub found_good : f.outcome ≡ Read → GoodTable (read s).table
-  found_good e = read_good s (sym its_outcome ∙ e)
-
-  pub found_read : f.outcome ≡ Read → f ≡ findings_on (read s).table
-  unfolding findings findings_read
-  found_read e = h ∙ rw (sym its_outcome ∙ e)
 
 -- ---- a file
 module _ (s : List ℕ) (l : Loaded) (h : l ≡ read s) where

@@ -1,8 +1,10 @@
 // The verdict on a table and on a file, and the figures of a file's task: document 01, "The verdict".
-ghost use Rattle.std.specs.Prelude.{◌≡◌};
+ghost use Rattle.std.specs.Prelude.{◌≡◌, ◌+◌, ◌*◌, ◌<◌, get_or};
+ghost use Rattle.graph.specs.Words.{row};
+ghost use Rattle.table.specs.Memory.{succ};
 ghost use Rattle.table.specs.Good.{GoodTable};
 ghost use Rattle.verdict.specs.Verdicts.{verdict_on, unread, verdict, no_figures, figures};
-ghost use Rattle.verdict.specs.Measured.{decided, with_chain};
+ghost use Rattle.verdict.specs.Measured.{with_chain};
 
 use crate::measuring::Measures;
 use crate::{Decided, Figures, Verdict, figuring};
@@ -24,10 +26,10 @@ pub fn with_chain(d: Decided, succ: [u16; 16], own: [u32; 16]) -> Verdict
     }
 }
 
-// The verdict on a good table when its task is known: that task's chain is looked for, and no other's.
-pub(crate) fn chained(t: &Table, d: Decided) -> Verdict
-    requires { GoodTable t.now × (d ≡ decided (verdict_on t.now)) }
-    ensures { result ≡ verdict_on t.now }
+// A verdict on a table when its task is known: that task's chain is looked for, and no other's.
+pub fn chained(t: &Table, d: Decided) -> Verdict
+    requires { d.task < 16 }
+    ensures { result ≡ with_chain d (succ t.now d.task) (row 16 (λ u. get_or t.now.costs (16 * d.task + u) 0)) }
 {
     let k = usize::from(d.task);
     let own = figuring::own_costs(&t.costs, k);

@@ -1,6 +1,6 @@
 use Rattle.text.specs.Text.{text}
 use Rattle.text.proofs.Pages.{same, nothing}
-use Rattle.lines.proofs.Parted.{said, said_not}
+use Rattle.text.proofs.Putting.{said, said_not}
 use Rattle.lines.proofs.parts.dash.Goals as goal
 
 pub returns-then-page-from : goal.returns-then-page-from

@@ -5,7 +5,7 @@ use Rattle.graph.specs.Words.{bit}
 use Rattle.text.specs.Text.{text, decimal}
 use Rattle.lines.specs.Lines.{number_in}
 use Rattle.text.proofs.Pages.{same, nothing}
-use Rattle.lines.proofs.Parted.{said, said_not}
+use Rattle.text.proofs.Putting.{said, said_not}
 use Rattle.lines.proofs.parts.number_in.Goals as goal
 
 pub returns-then-set-i-eq1 : goal.returns-then-set-i-eq1

@@ -20,8 +20,8 @@ pub returns : goal.returns
 unfolding left
 returns c = λ st k r l d.
     let a = c.args in
-    c.choose.ensures.0 a.t st refl (c.sets_of-sets.ensures ∙ ready_sets a.t (successors a.t _ c.well_formed.0) st a.begun _ r l)
+    c.choose.ensures.0 a.t st refl (c.sets_of-sets.ensures ∙ ready_sets a.t (successors a.t _ c.well_formed.0) st a.rows.now.live _ r l)
     (λ i p b h e.
-    ap (λ (x : List ℕ). get_or x (16 * p + i) 0) c.left_of-left.ensures ∙ row_at 64 _ (16 * p + i) 0 (omega arith)
-    ∙ ap (λ (x : Bool). pick x (ticks_left (get_or a.deadlines.now (16 * p + i) 0) a.clock) 0) (l i p b h ∙ e)
+    ap (λ (x : List ℕ). get_or x (16 * p + i) 0) c.ticks_left.ensures ∙ row_at 64 _ (16 * p + i) 0 (omega arith)
+    ∙ ap (λ (x : Bool). pick x (ticks_left (get_or a.rows.now.deadlines (16 * p + i) 0) a.rows.now.clock) 0) (l i p b h ∙ e)
     ∙ ap₂ ticks_left (d i p b h e) (sym k))

@@ -10,5 +10,5 @@ pub returns : goal.returns
 unfolding bit
 returns c =
     let r = c.args.self.now in
-    let zero : ℕ → Bool = λ s. zero_place (bit r.live s) (get_or r.work s 0) r.remaining s in
+    let zero : ℕ → Bool = λ s. zero_place (bit r.live s) (get_or r.work s 0) c.args.remaining.now s in
     all_from_yields_List zero _ _ c.all.result c.all.ensures.ran (YieldsList-from_range 0 64 64 refl refl) (λ x b q k. search (rules, tests)) ∙ all_in_range zero 64

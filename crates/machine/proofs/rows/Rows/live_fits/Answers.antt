@@ -12,7 +12,7 @@ returns-then-spaced c =
     let s = c.args.s in
     let task = get_or c.args.t.now.tasks (s % 16) no_task in
     elim c.if-newest.branch [
-      | then-newest w ↦ c.job_fits.ensures ∙ its_job task c.args.t.now.costs r.live c.args.ticks.now (get_or r.waits (s % 16) 0) (get_or r.work s 0) r.remaining s
+      | then-newest w ↦ c.job_fits.ensures ∙ its_job task c.args.t.now.costs r.live c.args.ticks.now (get_or r.waits (s % 16) 0) (get_or r.work s 0) c.args.remaining.now s
           (sym c.newest.ensures ∙ w.if-newest.true) (sym w.spaced.ensures ∙ sym w.value-is ∙ c.if-spaced.true)
       | else-newest w ↦ absurd (clash c.if-spaced.true (w.value-is ∙ w.if-newest.false))
     ]
@@ -24,7 +24,7 @@ returns-else-spaced c =
     let s = c.args.s in
     let task = get_or c.args.t.now.tasks (s % 16) no_task in
     c.if-spaced.false ∙ elim c.if-newest.branch [
-      | then-newest w ↦ not_spaced task c.args.t.now.costs r.live c.args.ticks.now (get_or r.waits (s % 16) 0) (get_or r.work s 0) r.remaining s
+      | then-newest w ↦ not_spaced task c.args.t.now.costs r.live c.args.ticks.now (get_or r.waits (s % 16) 0) (get_or r.work s 0) c.args.remaining.now s
           (sym c.newest.ensures ∙ w.if-newest.true) (sym w.spaced.ensures ∙ sym w.value-is ∙ c.if-spaced.false)
-      | else-newest w ↦ not_newest task c.args.t.now.costs r.live c.args.ticks.now (get_or r.waits (s % 16) 0) (get_or r.work s 0) r.remaining s (sym c.newest.ensures ∙ w.if-newest.false)
+      | else-newest w ↦ not_newest task c.args.t.now.costs r.live c.args.ticks.now (get_or r.waits (s % 16) 0) (get_or r.work s 0) c.args.remaining.now s (sym c.newest.ensures ∙ w.if-newest.false)
     ]

@@ -10,5 +10,5 @@ pub returns : goal.returns
 returns c =
     let t = c.args.t.now in
     let r = c.args.self.now in
-    let fits : ℕ → Bool = λ s. slot_fits t.n (get_or t.tasks (s % 16) no_task) t.costs r.live (ticks_of r) (get_or r.waits (s % 16) 0) (get_or r.work s 0) r.remaining s in
+    let fits : ℕ → Bool = λ s. slot_fits t.n (get_or t.tasks (s % 16) no_task) t.costs r.live (ticks_of r) (get_or r.waits (s % 16) 0) (get_or r.work s 0) c.args.remaining.now s in
     all_from_yields_List fits _ _ c.all.result c.all.ensures.ran (YieldsList-from_range 0 64 64 refl refl) (λ x b q k. search (rules, tests)) ∙ all_in_range fits 64

@@ -19,8 +19,8 @@ returns-in-Some c =
     let o = c.tasks_in-over in
     let k = c.close-live in
     let m = c.first_late in
-    let by : (every : Bool) → (every ≡ false → Tidy r.live r.remaining r.work) → a.gaps ≡ pick every 65535 o.result → _ = λ every tidy gaps.
-    rows_miss r.clock r.phase r.live r.deadlines r.waits r.remaining r.work a.done o.result c.requires.ended o.ensures every tidy a.gaps gaps
+    let by : (every : Bool) → (every ≡ false → Tidy r.live a.remaining.now r.work) → a.gaps ≡ pick every 65535 o.result → _ = λ every tidy gaps.
+    rows_miss r.clock r.phase r.live r.deadlines r.waits a.remaining.now r.work a.done o.result c.requires.ended o.ensures every tidy a.gaps gaps
     k.result k.new.deadlines k.new.remaining k.new.work k.ensures.0 k.ensures.1 k.ensures.2 k.ensures.3
     (listed a.chosen) _ m.result refl m.ensures c.in-Some.late c.in-Some.is
     _ (ap₂ (λ (x : Answer) (z : State). record { answer = x; state = z }) c.of.ensures c.zeros.ensures) in
@@ -35,8 +35,8 @@ returns-in-None c =
     let k = c.close-live in
     let m = c.first_late in
     let g = c.together in
-    let by : (every : Bool) → (every ≡ false → Tidy r.live r.remaining r.work) → a.gaps ≡ pick every 65535 o.result → _ = λ every tidy gaps.
-    rows_go r.clock r.phase r.live r.deadlines r.waits r.remaining r.work a.done o.result c.requires.ended o.ensures every tidy a.gaps gaps
+    let by : (every : Bool) → (every ≡ false → Tidy r.live a.remaining.now r.work) → a.gaps ≡ pick every 65535 o.result → _ = λ every tidy gaps.
+    rows_go r.clock r.phase r.live r.deadlines r.waits a.remaining.now r.work a.done o.result c.requires.ended o.ensures every tidy a.gaps gaps
     k.result k.new.deadlines k.new.remaining k.new.work k.ensures.0 k.ensures.1 k.ensures.2 k.ensures.3
     (listed a.chosen) _ m.result refl m.ensures c.in-None.is
     g.result g.ensures

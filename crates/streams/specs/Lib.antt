@@ -1,0 +1,2 @@
+-- What the readers' contracts cite.
+pub mod Reading

@@ -1,9 +1,0 @@
--- `changed` is safe and ends: each turn leaves fewer changes.
-use borrow.Author.Rules.{rules}
-use Rattle.trial_write.proofs.changed.Given as goal
-
-abbrev pub invariant-loop-left : goal.invariant-loop-left
-invariant-loop-left g l = Unit {0}
-
-abbrev pub decreases-loop-left : goal.decreases-loop-left
-decreases-loop-left g l = l.left
