@@ -1,10 +1,11 @@
 -- What a chain over the numbers below n gives, in the words of graph's definitions: that all pass a test, and the lowest that does.
-use Rattle.std.proofs.Common.{◌≡◌, ℕ, zero, suc, ◌+◌, ◌<◌, ◌≤◌, Bool, true, false, ◌&&◌, List, [], ◌∷◌, length, get_or, Option, Some, None, sym, refl, ap, ◌∙◌, arith}
+use Rattle.std.proofs.Common.{◌≡◌, ℕ, zero, suc, ◌+◌, ◌<◌, ◌≤◌, Bool, true, false, ◌&&◌, List, [], ◌∷◌, length, get_or, Option, Some, None, sym, refl, ap, ◌∙◌, add-zero, arith}
 use native.Mathlib.Decide.{dec_lt}
 use Rattle.std.specs.Option.{MatchOption}
-use Rattle.std.specs.List.{range_with_len, list_all}
-use Rattle.graph.specs.Words.{all, lowest_or}
+use Rattle.std.specs.List.{range_with_len, list_all, filter}
+use Rattle.graph.specs.Words.{flag, sum, all, lowest_or}
 use Rattle.graph.proofs.Facts.{lowest_or_none}
+use Rattle.slots.proofs.Cases.{sum_next}
 use Rattle.slots.proofs.Behind.{all_more, all_off, all_done_lem}
 use Rattle.machine.proofs.Lowest.{lowest_or_is}
 
@@ -41,3 +42,21 @@ entries_from p q n (x ∷ l) i e h a =
 pub all_entries : (p : ℕ → Bool) (l : List ℕ) (n : ℕ) → length l ≡ n → list_all p l ≡ all n (λ k. p (get_or l k 0))
 unfolding all
 all_entries p l n e = entries_from p (λ k. p (get_or l k 0)) n l 0 (omega arith) (λ k j b z. let y : j ≡ k = omega arith in ap (λ (m : ℕ). p (get_or l m 0)) y) refl
+
+-- how many pass a test, from i on
+counted_from : (p : ℕ → Bool) (n i k : ℕ) → i + k ≡ n → sum n (λ q. flag (p q)) ≡ sum i (λ q. flag (p q)) + length (filter p (range_with_len i k))
+unfolding flag
+counted_from p n i zero e = let z : n ≡ i = omega arith in ap (λ (m : ℕ). sum m (λ q. flag (p q))) z ∙ sym (add-zero (sum i (λ q. flag (p q))))
+counted_from p n i (suc k) e =
+    let after = counted_from p n (i + 1) k (omega arith) in
+    let next = sum_next i (λ q. flag (p q)) in
+    let here = one (p i) refl in
+    omega (arith, after, next, here)
+  where
+    one : (b : Bool) → p i ≡ b → length (filter p (i ∷ range_with_len (i + 1) k)) ≡ flag (p i) + length (filter p (range_with_len (i + 1) k))
+    one true q = rw q (omega arith)
+    one false q = rw q (omega arith)
+
+pub counted : (p : ℕ → Bool) (n : ℕ) → length (filter p (range_with_len 0 n)) ≡ sum n (λ q. flag (p q))
+unfolding sum
+counted p n = let h = counted_from p n 0 n (omega arith) in omega (arith, h)

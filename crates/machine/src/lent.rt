@@ -30,13 +30,9 @@ fn places_used(live: u64, i: usize) -> usize
     requires { i < 16 }
     ensures { result ≡ used_by live i }
 {
-    let mut count: usize = 0;
-    for p in 0..4usize {
-        if (live >> (16 * p + i)) % 2 == 1 {
-            count += 1;
-        }
-    }
-    count
+    (0..4usize)
+        .filter(|p| (live >> (16 * *p + i)) % 2 == 1)
+        .count()
 }
 
 // Whether a slot gets a new job: its task is named, and it is the first place that is not in use.

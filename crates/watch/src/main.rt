@@ -39,7 +39,6 @@ fn main(rt: HostRuntime) -> io::Result<()> {
     let mut input = rt.stdin();
     let mut table = [0; FILE_ROOM];
     let n = streams::read_sized(&mut input, &mut table)?.unwrap_or(0);
-    let mut clock = [0; 4];
-    streams::read_full(&mut input, &mut clock)?;
-    watch(&rt, &mut input, &table[..n], u32::from_le_bytes(clock))
+    let clock = u32::from_le_bytes(streams::next_padded(&mut input)?);
+    watch(&rt, &mut input, &table[..n], clock)
 }
