@@ -135,8 +135,5 @@ module _ (t : Table) (st : State) (set : ℕ) where
   unfolding offered
   offered_left o e = ap (λ (x : Offer). x.left) e
 
-  pub offered_of : (named : ℕ) (o : Offer) → set ≡ named → o ≡ offered t st set → o ≡ offered t st named
-  offered_of named o a e = e ∙ ap (offered t st) a
-
   pub advanced : (named : ℕ) (l chosen : List ℕ) (r : Ticked) → set ≡ named → l ≡ chosen → r ≡ advance t st set l → r ≡ advance t st named chosen
   advanced named l chosen r a b e = e ∙ ap₂ (λ (n : ℕ) (x : List ℕ). advance t st n x) a b

@@ -1,9 +1,8 @@
 -- The lowest number that passes a test: it passes, and none lower does. There is one or none, by asking the numbers one after the other.
-use Rattle.std.proofs.Common.{◌≡◌, ℕ, zero, suc, ◌<◌, ◌≤◌, Bool, true, false, ◌⊎◌, List, [], ◌∷◌, get_or, sym, refl, ap, ◌∙◌, subst, inl, inr, ⊎_elim, arith}
+use Rattle.std.proofs.Common.{◌≡◌, ℕ, zero, suc, ◌<◌, Bool, true, false, ◌⊎◌, List, [], ◌∷◌, get_or, refl, ap, ◌∙◌, inl, inr, ⊎_elim, arith}
 use native.Mathlib.Decide.{ℕ_discrete}
 use Rattle.graph.specs.Words.{those_below, lowest, is_in, first_or, lowest_or}
-use Rattle.graph.proofs.Facts.{clash, below_all, lowest_is, lowest_none, lowest_or_none}
-use Rattle.graph.proofs.Members.{below_same}
+use Rattle.graph.proofs.Facts.{clash, below_all, lowest_is, lowest_or_none}
 
 -- y is the lowest number below n that passes the test
 pub record Lowest (n : ℕ) (p : ℕ → Bool) (y : ℕ) : Type 0 where
@@ -43,25 +42,3 @@ module _ {ℓ} {X : Type ℓ} (n : ℕ) (p : ℕ → Bool) (f : ℕ → X) (othe
       (λ r. inl (r.0, r.1, lowest_or_is r.0 r.1))
       (λ none. inr (none, lowest_or_none n p f other none))
       (lowest_or_none_lem n p)
-
--- what a search hands back, d where it found none
-module _ (d n : ℕ) (p : ℕ → Bool) (b : n ≤ d) (r : ℕ) (e : r ≡ lowest d n p) where
-  pub found : r < d → Lowest n p r
-  found h = ⊎_elim
-      (λ q. subst (Lowest n p) (sym (e ∙ lowest_is d n p q.0 q.1.below q.1.passes q.1.none_lower)) q.1)
-      (λ none. let z = lowest_none d n p none in absurd (omega arith))
-      (lowest_or_none_lem n p)
-
-  pub found_none : d ≤ r → None n p
-  found_none h = ⊎_elim
-      (λ q.
-      let z = lowest_is d n p q.0 q.1.below q.1.passes q.1.none_lower in
-      let y = q.1.below in
-      absurd (omega arith))
-      (λ none. none)
-      (lowest_or_none_lem n p)
-
--- tests that agree have the same lowest
-pub lowest_ext : (d n : ℕ) (p q : ℕ → Bool) → ((k : ℕ) → k < n → p k ≡ q k) → lowest d n p ≡ lowest d n q
-unfolding lowest
-lowest_ext d n p q h = ap (λ (l : List ℕ). get_or l 0 d) (below_same n p q h)

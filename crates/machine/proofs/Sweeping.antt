@@ -1,19 +1,14 @@
 -- A row of sixty-four that a loop over the members of a set changes, from the lowest member up: at the members that were passed it is as the
 -- definition says, elsewhere as it was. `rest` are the members still to come.
-use Rattle.std.proofs.Common.{◌≡◌, ℕ, ◌+◌, ◌-◌, ◌^◌, ◌<◌, ◌≤◌, Bool, true, false, not, ◌&&◌, List, length, get_or, set, replicate, sym, refl, ap, ◌∙◌, arith, length-set, get_or-set_other, get_or-set_same, pow_mono, eq-eqb, ne_eqb}
+use Rattle.std.proofs.Common.{◌≡◌, ℕ, ◌-◌, ◌^◌, ◌<◌, Bool, true, false, not, ◌&&◌, List, length, get_or, set, replicate, sym, refl, ap, ◌∙◌, arith, length-set, get_or-set_other, get_or-set_same, eq-eqb, ne_eqb}
 use mathlib.Core.Path.{subst⁻¹}
 use native.Mathlib.Decide.{ℕ_discrete}
 use lib.Bits.{bit_and, and_le_r}
 use lib.Count.{count_trailing_zeros}
-use Rattle.graph.specs.Words.{pick, bit, row, set_of}
+use Rattle.graph.specs.Words.{pick, bit, row}
 use Rattle.graph.proofs.Facts.{clash}
 use Rattle.graph.proofs.Bits.{lowest, lowest_lt, lowest_less, bit_zero}
-use Rattle.graph.proofs.Sets.{set_small}
 use Rattle.machine.proofs.Filling.{same_throughout, row_same, row_ext}
-
--- ---- a set that is built slot by slot fits sixty-four bits
-pub slot_room : (p : ℕ → Bool) (s : ℕ) → s < 64 → set_of s p + 2 ^ s < 18446744073709551616
-slot_room p s b = let h : s ≤ 63 = omega arith in let m : 2 ^ s ≤ 2 ^ 63 = pow_mono h in omega (arith, set_small p s)
 
 -- ---- a set without its lowest member
 module _ (x : ℕ) (p : 0 < x) (h : x < 2 ^ 64) where

@@ -25,7 +25,8 @@ pub fn put_byte(out: &mut [u8], at: usize, b: u8)
     put_bytes(out, at, &[b]);
 }
 
-// The digits of x, the last one at the end of twenty bytes; where they start.
+// The digits of x, the last one at the end of twenty bytes; where they start. How many there are shows only at the first of them, so a
+// `for` over the twenty places would need a return in its middle and one behind it that never comes.
 fn put_digits(digits: &mut [u8; 20], x: u64) -> usize
     requires { length digits.old ≡ 20 }
     ensures { (result < 20) × (length digits.new ≡ 20) × (drop result digits.new ≡ decimal x) }
