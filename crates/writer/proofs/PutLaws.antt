@@ -6,21 +6,19 @@ use Prim.Native.Nat.{ℕ, zero, suc, ◌+◌, ◌*◌, ◌-◌, ◌/◌, ◌%◌
 use native.Mathlib.Omega.{arith}
 use native.Mathlib.Numerals.{add-one}
 use native.Mathlib.Nat.{add-zero, zero-add, sub-zero}
-use lib.ListN.{length, get_or, set, take, drop, length-append}
+use lib.ListN.{length, get_or, set, take, drop}
 use lib.Seq.{sets, sets-eq, drop-drop}
 use borrow.Rule.Slice.PartMut.{put_mid}
 use Rattle.std.specs.Int.{w32, to_le_bytes}
 use lib.Dec.{eqb}
 use Rattle.graph.specs.Words.{bit, row_from, row, also_if, those, those_below, members, join_from, in_order}
 use Rattle.graph.proofs.Members.{Took}
-use Rattle.table.specs.declared.Task.{Task}
 use Rattle.table.specs.declared.Table.{Table}
 use Rattle.table.specs.Memory.{task, vertices, D, T, succ, cost}
 use Rattle.table.specs.Writing.{bytes4, edge_bytes, encode_task, encode}
-use Rattle.checks.specs.Checking.{row_keys, keys_of}
+use Rattle.checks.specs.Checking.{row_keys}
 use Rattle.writer.specs.Putting.{cost_bytes, task_bytes}
 use Rattle.checks.proofs.Keys.{bit_low, bit_up, keys_are}
-use Rattle.table.proofs.Places.{costs_long, edges_long}
 use Rattle.checks.proofs.TestLaws.{join_next, join_end, keys_from, keys_next}
 
 -- ---- part after part
@@ -94,7 +92,7 @@ row_set : (u x : ℕ) → row_keys 16 u 0 x ≡ keys_in u (members x)
 unfolding members those_below row
 row_set u x = row_from_set (bit x) 16 u 0 x (λ j l. ap (bit x) (zero-add j))
 
-pub row_took : (u x w y : ℕ) → Took x w y → row_keys 16 u 0 x ≡ (16 * u + w) ∷ row_keys 16 u 0 y
+row_took : (u x w y : ℕ) → Took x w y → row_keys 16 u 0 x ≡ (16 * u + w) ∷ row_keys 16 u 0 y
 unfolding keys_in
 row_took u x w y t = row_set u x ∙ ap (keys_in u) t.listed ∙ ap (λ (l : List ℕ). (16 * u + w) ∷ l) (sym (row_set u y))
 
@@ -110,13 +108,14 @@ no_bits (suc k) u w x e =
     let y : x % 2 ≡ 0 = omega arith in
     row_even k u w x y ∙ no_bits k u (w + 1) (x / 2) z
 
-pub put_key : (l ks : List ℕ) (p u y : ℕ) → y < 16 → sets (set (set l p u) (p + 1) y) (p + 2) (edge_bytes ks) ≡ sets l p (edge_bytes ((16 * u + y) ∷ ks))
+-- and their bytes: those of the edge to the lowest member, and the rest
+pub edge_then : (u x w y : ℕ) → Took x w y → edge_bytes (row_keys 16 u 0 x) ≡ (u ∷ w ∷ []) ++ edge_bytes (row_keys 16 u 0 y)
 unfolding edge_bytes
-put_key l ks p u y h =
-    let a : (16 * u + y) / 16 ≡ u = omega arith in
-    let b : (16 * u + y) % 16 ≡ y = omega arith in
-    let d : p + 2 ≡ suc (suc p) = omega arith in
-    rw (a, b, add-one p, d)
+edge_then u x w y t =
+    let h = t.below in
+    let a : (16 * u + w) / 16 ≡ u = omega arith in
+    let b : (16 * u + w) % 16 ≡ w = omega arith in
+    ap edge_bytes (row_took u x w y t) ∙ rw (a, b) refl
 
 pub no_edges : edge_bytes [] ≡ []
 unfolding edge_bytes
@@ -132,40 +131,7 @@ pub rows_bytes : (v : ℕ) (succ : List ℕ) (u : ℕ) → u < v
     → edge_bytes (keys_from v succ u) ≡ edge_bytes (row_keys 16 u 0 (get_or succ u 0)) ++ edge_bytes (keys_from v succ (u + 1))
 rows_bytes v succ u h = ap edge_bytes (keys_next v succ u h) ∙ edges_join (row_keys 16 u 0 (get_or succ u 0)) (keys_from v succ (u + 1))
 
-pub rows_long : (v : ℕ) (succ : List ℕ) (u : ℕ) → u < v → length (keys_from v succ u) ≡ length (row_keys 16 u 0 (get_or succ u 0)) + length (keys_from v succ (u + 1))
-rows_long v succ u h = ap length (keys_next v succ u h) ∙ length-append (row_keys 16 u 0 (get_or succ u 0)) (keys_from v succ (u + 1))
-
 -- ---- a task record
-pub task_long : (a : Task) (costs : List ℕ) (slot : ℕ) → length (task_bytes a costs slot) ≡ 12 + 4 * a.v + 2 * length (keys_of a.v a.succ)
-unfolding task_bytes cost_bytes in_order bytes4
-task_long a costs slot =
-    let c = costs_long a.v 0 (λ u. get_or costs (slot + u) 0) in
-    let d = edges_long (keys_of a.v a.succ) in
-    let e = length-append (join_from a.v 0 (λ u. bytes4 (get_or costs (slot + u) 0))) (edge_bytes (keys_of a.v a.succ)) in
-    omega arith
-
-cost_long : (costs : List ℕ) (slot v : ℕ) → length (cost_bytes costs slot v) ≡ 4 * v
-unfolding cost_bytes in_order
-cost_long costs slot v = costs_long v 0 (λ u. get_or costs (slot + u) 0)
-
--- its five parts, one after the other
-pub task_put : (a : Task) (costs l l₁ l₂ l₃ l₄ l₅ : List ℕ) (slot at : ℕ)
-    → l₁ ≡ sets l at (0x54 ∷ 0x4B ∷ a.v ∷ length (keys_of a.v a.succ) ∷ [])
-    → l₂ ≡ sets l₁ (at + 4) (bytes4 a.d) → l₃ ≡ sets l₂ (at + 8) (bytes4 a.t) → l₄ ≡ sets l₃ (at + 12) (cost_bytes costs slot a.v)
-    → l₅ ≡ sets l₄ (at + 12 + 4 * a.v) (edge_bytes (keys_of a.v a.succ)) → l₅ ≡ sets l at (task_bytes a costs slot)
-unfolding task_bytes
-task_put a costs l l₁ l₂ l₃ l₄ l₅ slot at e₁ e₂ e₃ e₄ e₅ =
-    let E : List ℕ = edge_bytes (keys_of a.v a.succ) in
-    let C : List ℕ = cost_bytes costs slot a.v in
-    let n : at + 12 + 4 * a.v ≡ at + 12 + length C = ap (λ (k : ℕ). at + 12 + k) (sym (cost_long costs slot a.v)) in
-    let h₃ : at + 12 ≡ at + 8 + length (bytes4 a.t) = let z = four_long a.t in omega arith in
-    let h₂ : at + 8 ≡ at + 4 + length (bytes4 a.d) = let z = four_long a.d in omega arith in
-    let h₁ : at + 4 ≡ at + length (0x54 ∷ 0x4B ∷ a.v ∷ length (keys_of a.v a.succ) ∷ []) = refl in
-    e₅ ∙ sets_then C E l₃ l₄ (at + 12) (at + 12 + 4 * a.v) e₄ n
-    ∙ sets_then (bytes4 a.t) (C ++ E) l₂ l₃ (at + 8) (at + 12) e₃ h₃
-    ∙ sets_then (bytes4 a.d) (bytes4 a.t ++ (C ++ E)) l₁ l₂ (at + 4) (at + 8) e₂ h₂
-    ∙ sets_then (0x54 ∷ 0x4B ∷ a.v ∷ length (keys_of a.v a.succ) ∷ []) (bytes4 a.d ++ (bytes4 a.t ++ (C ++ E))) l l₁ at (at + 4) e₁ h₁
-
 -- A TASK'S BYTES, PART BY PART, ARE WHAT IT STANDS FOR
 pub task_bytes_lem : (t : Table) (i : ℕ) → encode_task t i ≡ task_bytes (task t i) t.costs (16 * i)
 unfolding encode_task task_bytes cost_bytes vertices D T succ cost
@@ -188,10 +154,6 @@ unfolding tasks_from
 tasks_done t i h = join_end (encode_task t) t.n i h
 
 -- ---- the file: its head, then its tasks
-pub file_put : (t : Table) (l l₁ l₂ : List ℕ) → l₁ ≡ sets l 0 (0x54 ∷ 0x42 ∷ t.m ∷ t.n ∷ []) → l₂ ≡ sets l₁ 4 (in_order t.n (encode_task t)) → l₂ ≡ sets l 0 (encode t)
-unfolding encode
-file_put t l l₁ l₂ e₁ e₂ = e₂ ∙ sets_then (0x54 ∷ 0x42 ∷ t.m ∷ t.n ∷ []) (in_order t.n (encode_task t)) l l₁ 0 4 e₁ refl
-
 pub file_long : (t : Table) → length (encode t) ≡ 4 + length (in_order t.n (encode_task t))
 unfolding encode
 file_long t = omega arith

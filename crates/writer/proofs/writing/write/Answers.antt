@@ -1,8 +1,11 @@
-use mathlib.Core.Path.{refl, sym, ◌∙◌}
+use mathlib.Core.Path.{refl, sym, ap, ◌∙◌}
 use native.Mathlib.Omega.{arith}
+use borrow.Author.Rules.{rules}
 use lib.ListN.{length}
 use Rattle.writer.proofs.WriteLaws.{long, says_refused, says_unused, says_room, says_done, kept_refused, kept_unused, kept_room, put_done}
-use Rattle.writer.proofs.PutLaws.{file_long, file_put}
+use Rattle.writer.proofs.PutLaws.{file_long}
+use Rattle.writer.proofs.PenLaws.{puts_then, room_rest}
+use Rattle.table.specs.Writing.{encode}
 use Rattle.writer.proofs.TypedTable.{typed_table}
 use Rattle.writer.proofs.writing.write.Goals as goal
 
@@ -28,26 +31,29 @@ returns-then-buffer-length c =
     let w = says_room t (typed_table t _ c.well_formed.0) (length l) _ c.in-Ok.ensures z (omega arith) in
     (w, kept_room t l _ w _ refl)
 
-pub put_head-requires : goal.put_head-requires
-put_head-requires c =
+pub bytes-requires : goal.bytes-requires
+bytes-requires c =
     let t = c.args.table in
     let m = long t (typed_table t _ c.well_formed.0) (length c.args.buffer.now) _ c.in-Ok.ensures in
     let f = file_long t in
-    omega arith
+    record { fits = omega arith }
 
-pub put_tasks-requires : goal.put_tasks-requires
-put_tasks-requires c =
+pub tasks-requires : goal.tasks-requires
+unfolding encode
+tasks-requires c =
     let t = c.args.table in
     let m = long t (typed_table t _ c.well_formed.0) (length c.args.buffer.now) _ c.in-Ok.ensures in
-    let f = file_long t in
-    let h = c.put_head.auto.buffer in
-    (rw (← c.in-Ok.ensures) refl, omega arith)
+    let n = ap length c.bytes.ensures.buffer in
+    let z = c.bytes.ensures.at in
+    (rw (← c.in-Ok.ensures) refl, room_rest (record { fits = omega arith }) c.bytes.ensures)
 
 pub returns : goal.returns
+unfolding encode
 returns c =
     let t = c.args.table in
     let l = c.args.buffer.now in
     let z = sym c.unused_zero.ensures ∙ c.if-not-unused_zero.false in
     let m = long t (typed_table t _ c.well_formed.0) (length l) _ c.in-Ok.ensures in
     let w = says_done t (typed_table t _ c.well_formed.0) (length l) _ c.in-Ok.ensures z (omega arith) in
-    (w, file_put t l _ _ c.put_head.ensures c.put_tasks.ensures ∙ put_done t l _ w _ refl m (omega arith))
+    let f = puts_then c.bytes.ensures c.tasks.ensures in
+    (w, search (rules, sym f.same) ∙ f.buffer ∙ put_done t l _ w _ refl m (omega arith))

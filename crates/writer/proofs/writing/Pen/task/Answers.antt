@@ -1,0 +1,51 @@
+use mathlib.Core.Path.{◌≡◌, sym, ◌∙◌}
+use native.Mathlib.Omega.{arith}
+use lib.ListN.{length}
+use Rattle.checks.specs.Checking.{keys_of}
+use Rattle.checks.proofs.TestLaws.{edges_counted}
+use Rattle.writer.specs.Putting.{task_bytes}
+use Rattle.writer.proofs.PenLaws.{puts_then, room_first, room_rest, task_parts}
+use Rattle.writer.proofs.writing.Pen.task.Goals as goal
+
+-- e is at most 120
+pub overflow_cast-e : goal.overflow_cast-e
+overflow_cast-e c =
+    let a = c.args in
+    let f : c.edges_of-e.result ≡ length (keys_of a.task.v a.task.succ) =
+    rw c.from-v.ensures at c.edges_of-e.ensures ∙ sym (edges_counted a.task.v a.task.succ c.requires.in_range.0) in
+    let e = c.requires.in_range.1 in
+    omega arith
+
+pub bytes-requires : goal.bytes-requires
+bytes-requires c = room_first _ (task_parts c.args.task c.args.costs.now c.args.slot c.edges_of-e.result c.requires.has_room)
+
+pub number-requires : goal.number-requires
+number-requires c = room_first _ (room_rest (task_parts c.args.task c.args.costs.now c.args.slot c.edges_of-e.result c.requires.has_room) c.bytes.ensures)
+
+pub number-requires-2 : goal.number-requires-2
+number-requires-2 c = room_first _ (room_rest (room_rest (task_parts c.args.task c.args.costs.now c.args.slot c.edges_of-e.result c.requires.has_room) c.bytes.ensures) c.number.ensures)
+
+pub costs-requires : goal.costs-requires
+costs-requires c =
+    let v = c.requires.in_range.0 in
+    let s = c.requires.in_range.2 in
+    let r = room_rest (room_rest (room_rest (task_parts c.args.task c.args.costs.now c.args.slot c.edges_of-e.result c.requires.has_room) c.bytes.ensures) c.number.ensures) c.number-2.ensures in
+    rw c.from-v.ensures (omega arith, room_first _ r)
+
+pub edges-requires : goal.edges-requires
+edges-requires c =
+    let r = room_rest (room_rest (room_rest (task_parts c.args.task c.args.costs.now c.args.slot c.edges_of-e.result c.requires.has_room) c.bytes.ensures) c.number.ensures) c.number-2.ensures in
+    let k = rw c.from-v.ensures at c.costs.ensures in
+    rw c.from-v.ensures (c.requires.in_range.0, room_rest r k)
+
+pub returns : goal.returns
+unfolding task_bytes
+returns c =
+    let a = c.args in
+    let v = c.from-v.ensures in
+    let f : c.edges_of-e.result ≡ length (keys_of a.task.v a.task.succ) =
+    rw v at c.edges_of-e.ensures ∙ sym (edges_counted a.task.v a.task.succ c.requires.in_range.0) in
+    let h = rw f at c.bytes.ensures in
+    let k = rw v at c.costs.ensures in
+    let g = rw v at c.edges.ensures in
+    puts_then h (puts_then c.number.ensures (puts_then c.number-2.ensures (puts_then k g)))
