@@ -1,6 +1,7 @@
 -- For each public function: any two results that its contract allows are equal. The contract is the one that the checker reads from the source.
-use mathlib.Core.Path.{◌≡◌, sym, ◌∙◌}
+use mathlib.Core.Path.{◌≡◌, sym, ap, ◌∙◌}
 use mathlib.Core.List.{List}
+use Prim.Native.Nat.{ℕ}
 use contract.Lifetimes.{Lfts}
 use denote.Triple.Clauses.{AtExit}
 use borrow.Fn.Kinds.{ParamKind, ResultKind, Out, Dens, res_t, ended_of}
@@ -10,6 +11,9 @@ use Rattle.graph.proofs.held_back.Kinds as held-back-kinds
 use Rattle.graph.proofs.held_back.Reads as held-back-reads
 use Rattle.graph.proofs.longest.Kinds as longest-kinds
 use Rattle.graph.proofs.longest.Reads as longest-reads
+use Rattle.graph.proofs.set.Members.of.Kinds as of-kinds
+use Rattle.graph.proofs.set.Members.of.Reads as of-reads
+use Rattle.graph.specs.declared.set.Members.{Members}
 
 -- two results that are each what a definition gives are equal
 pub by_definition {ℓ} : {X : Type ℓ} {defined r s : X} → r ≡ defined → s ≡ defined → r ≡ s
@@ -28,3 +32,7 @@ held_back_one κs args x y s t = by_definition
 
 pub longest_one : OneResult longest-kinds.ps longest-kinds.r longest-reads.Post
 longest_one κs args x y s t = by_definition
+
+-- the set is all that the members of a set hold
+pub of_one : OneResult of-kinds.ps of-kinds.r of-reads.Post
+of_one κs args x y s t p q = ap (λ (rest : ℕ). record { rest = rest }) (by_definition p q)

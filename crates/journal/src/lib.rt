@@ -9,7 +9,7 @@ mod walk;
 use machine::State;
 pub use walk::{judge, judge_piece, rule, unreadable};
 
-// The ruling on a journal: number 0, the number of rows, and whether the last one missed; or the refusal's number and row, for
+// The ruling on a journal, as document 02 has it: number 0, the number of rows, and whether the last one missed; or the refusal's number and row, for
 // reading's numbers the place and row 0.
 #[derive(Clone, Copy)]
 pub struct Ruling {

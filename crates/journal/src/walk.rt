@@ -153,8 +153,8 @@ pub fn unreadable(o: Outcome) -> Ruling
     ensures { result ≡ unread o }
 {
     Ruling {
-        number: table::number(o),
-        place: table::place(o),
+        number: o.number(),
+        place: o.place(),
         row: 0,
         rows: 0,
         missed: false,

@@ -16,7 +16,7 @@ pub use ticking::tick_line;
 // A line's text, at the front of its bytes, and how long it is.
 pub type Line = text::Page<2048>;
 
-// A step: its line, the answer's number, and the state to go on from.
+// A step: its line, the answer's number, which is document 01's, and the state to go on from.
 #[derive(Clone, Copy)]
 pub struct Shown {
     pub line: Line,

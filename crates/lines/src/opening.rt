@@ -11,8 +11,8 @@ use text::Page;
 fn refuse_line(page: &mut Line, o: Outcome)
     ensures { Adds page.old page.new (refuse_line o) }
 {
-    page.labelled(b"refuse ", u64::from(table::number(o)));
-    page.labelled(b" at ", table::place(o) as u64);
+    page.labelled(b"refuse ", u64::from(o.number()));
+    page.labelled(b" at ", o.place() as u64);
     page.end_line();
 }
 

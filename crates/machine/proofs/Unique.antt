@@ -28,6 +28,10 @@ use Rattle.machine.proofs.ticking.first_beyond.Kinds as first-beyond-kinds
 use Rattle.machine.proofs.ticking.first_beyond.Reads as first-beyond-reads
 use Rattle.machine.proofs.ticking.first_early.Kinds as first-early-kinds
 use Rattle.machine.proofs.ticking.first_early.Reads as first-early-reads
+use Rattle.machine.proofs.Job.is_live.Kinds as is-live-kinds
+use Rattle.machine.proofs.Job.is_live.Reads as is-live-reads
+use Rattle.machine.proofs.Job.deadline.Kinds as deadline-kinds
+use Rattle.machine.proofs.Job.deadline.Reads as deadline-reads
 use Rattle.machine.specs.contracts.tick_in_place as in_place
 use Rattle.machine.specs.declared.Answer.{Answer}
 
@@ -56,6 +60,12 @@ first_beyond_one κs args x y s t = by_definition
 
 pub first_early_one : OneResult 0 first-early-kinds.ps first-early-kinds.r first-early-reads.Post
 first_early_one κs args x y s t = by_definition
+
+pub is_live_one : OneResult 0 is-live-kinds.ps is-live-kinds.r is-live-reads.Post
+is_live_one κs args x y s t = by_definition
+
+pub deadline_one : OneResult 0 deadline-kinds.ps deadline-kinds.r deadline-reads.Post
+deadline_one κs args x y s t = by_definition
 
 -- The tick in place is lent a state, and its contract is an assertion: where it holds of two answers and two states at the return, they are equal.
 module _ {M : Type 1} {𝓤 : Ura M} (𝓛 : Logic 𝓤) (at_mem : Memory → SProp 𝓤) (run : Routine → Fun 𝓤) (κs : Lfts 2) (args : Args in_place.signature κs) where

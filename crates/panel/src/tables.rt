@@ -45,8 +45,8 @@ pub fn mt_read(bytes: &[u8]) -> ReadAnswer
 {
     let loaded = table::read(bytes);
     ReadAnswer {
-        place: table::place(loaded.outcome) as u64,
-        number: table::number(loaded.outcome),
+        place: loaded.outcome.place() as u64,
+        number: loaded.outcome.number(),
         pad: [0; 3],
         table: FaceTable::from(loaded.table),
     }
@@ -82,8 +82,8 @@ pub fn mt_write(table: FaceTable, buffer: &mut [u8]) -> WriteAnswer
 {
     let w = writer::write(Table::from(table), buffer);
     WriteAnswer {
-        place: table::writing_place(w) as u64,
-        number: table::writing_number(w),
+        place: w.place() as u64,
+        number: w.number(),
         pad: [0; 7],
     }
 }

@@ -92,7 +92,7 @@ fn tick_face(f: FaceState, bytes: &[u8], releases: u16) -> TickedFace
     let loaded = table::read(bytes);
     let o = loaded.outcome;
     let Outcome::Read = o else {
-        return refused_face(f, table::number(o), table::place(o));
+        return refused_face(f, o.number(), o.place());
     };
     refused_face(f, 30, 0)
 }

@@ -97,8 +97,8 @@ fn last_line<const N: usize>(page: &mut Page<N>, v: Verdict)
 fn bad_line<const N: usize>(page: &mut Page<N>, o: Outcome)
     ensures { Adds page.old page.new (bad_line o) }
 {
-    page.labelled(b"unreadable ", u64::from(table::number(o)));
-    page.labelled(b" at ", table::place(o) as u64);
+    page.labelled(b"unreadable ", u64::from(o.number()));
+    page.labelled(b" at ", o.place() as u64);
     page.end_line();
 }
 

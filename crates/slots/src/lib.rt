@@ -1,5 +1,5 @@
 // What the code asks of one slot's numbers, clause by clause. The rules are in specs/Slots.antt. Slot 16 * p + i is age place p of task i, and
-// what remains of its vertex u lies at 16 times slot plus u.
+// what remains of its vertex u lies at 16 times slot plus u. Each function takes the row and the slot, as its definition does.
 #![tactic(auto)]
 
 ghost use Rattle.std.specs.Prelude.{◌≡◌, ◌&&◌, ◌||◌, not, ℕ, ◌*◌, ◌≤◌, ◌<◌, eqb, length, take, drop};

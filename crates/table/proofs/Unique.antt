@@ -6,14 +6,14 @@ use contract.Lifetimes.{Lfts}
 use denote.Triple.Clauses.{AtExit}
 use borrow.Fn.Kinds.{ParamKind, ResultKind, Out, Dens, res_t, ended_of}
 use Rattle.graph.proofs.Unique.{by_definition}
-use Rattle.table.proofs.numbers.number.Kinds as number-kinds
-use Rattle.table.proofs.numbers.number.Reads as number-reads
-use Rattle.table.proofs.numbers.place.Kinds as place-kinds
-use Rattle.table.proofs.numbers.place.Reads as place-reads
-use Rattle.table.proofs.numbers.writing_number.Kinds as writing-number-kinds
-use Rattle.table.proofs.numbers.writing_number.Reads as writing-number-reads
-use Rattle.table.proofs.numbers.writing_place.Kinds as writing-place-kinds
-use Rattle.table.proofs.numbers.writing_place.Reads as writing-place-reads
+use Rattle.table.proofs.Outcome.number.Kinds as number-kinds
+use Rattle.table.proofs.Outcome.number.Reads as number-reads
+use Rattle.table.proofs.Outcome.place.Kinds as place-kinds
+use Rattle.table.proofs.Outcome.place.Reads as place-reads
+use Rattle.table.proofs.Written.number.Kinds as writing-number-kinds
+use Rattle.table.proofs.Written.number.Reads as writing-number-reads
+use Rattle.table.proofs.Written.place.Kinds as writing-place-kinds
+use Rattle.table.proofs.Written.place.Reads as writing-place-reads
 use Rattle.table.proofs.reading.table_at.Kinds as table-at-kinds
 use Rattle.table.proofs.reading.table_at.Reads as table-at-reads
 use Rattle.table.proofs.reading.read.Kinds as read-kinds

@@ -1,4 +1,5 @@
-// The fields of a table file, each read at a place: document 01, "Numbers for reading and writing".
+// The fields of a table file, each read at a place: document 01, "Numbers for reading and writing". Each takes the bytes and the place, as its
+// definition does: a reader that moves on would hand the place out again for each refusal.
 ghost use Rattle.std.specs.Prelude.{◌≡◌, ◌+◌, ◌≤◌, ◌<◌, length};
 ghost use Rattle.table.specs.Reading.{byte_at, value4, ticks_at, period_at, edge_at};
 ghost use Rattle.table.specs.Parts.{marked};

@@ -68,28 +68,3 @@ impl Written {
         }
     }
 }
-
-// The same as functions.
-pub fn number(o: Outcome) -> u8
-    ensures { result ≡ number o }
-{
-    o.number()
-}
-
-pub fn place(o: Outcome) -> usize
-    ensures { result ≡ place o }
-{
-    o.place()
-}
-
-pub fn writing_number(w: Written) -> u8
-    ensures { result ≡ writing_number w }
-{
-    w.number()
-}
-
-pub fn writing_place(w: Written) -> usize
-    ensures { result ≡ writing_place w }
-{
-    w.place()
-}

@@ -1,9 +1,12 @@
 -- Each public function's contract, as the source states it, allows one result and one buffer at the return.
-use mathlib.Core.Path.{◌≡◌, sym, ◌∙◌}
+use mathlib.Core.Path.{◌≡◌, sym, ap₂, ◌∙◌}
+use mathlib.Core.List.{List}
 use Prim.Native.Nat.{ℕ}
 use contract.Lifetimes.{Lfts}
 use borrow.Fn.Kinds.{Dens, ended_of}
 use denote.Triple.Clauses.{AtExit}
+use Rattle.text.specs.declared.page.Page.{Page}
+use Rattle.text.specs.Page.{Adds}
 use Rattle.text.proofs.put_byte.Kinds as put-byte-kinds
 use Rattle.text.proofs.put_byte.Reads as put_byte
 use Rattle.text.proofs.put_bytes.Kinds as put-bytes-kinds
@@ -29,3 +32,9 @@ module _ (κs : Lfts 1) (a : Dens κs put-decimal-kinds.ps) (r r' : ℕ) (s s' :
 module _ (κs : Lfts 1) (a : Dens κs put-signed-kinds.ps) (r r' : ℕ) (s s' : AtExit (ended_of 1 put-signed-kinds.ps put-signed-kinds.r) κs) where
   pub put_signed_unique : put-signed.Post κs a r s → put-signed.Post κs a r' s' → (s.0.now ≡ s'.0.now) × (r ≡ r')
   put_signed_unique p q = (p.0 ∙ sym q.0, p.1 ∙ sym q.1)
+
+-- What each method of a page that puts words on it states: one page has them.
+pub adds_one : {n : ℕ} (old one other : Page n) (words : List ℕ) → Adds old one words → Adds old other words → one ≡ other
+adds_one {n} old one other words p q =
+    let page : List ℕ → ℕ → Page n = λ b l. record { bytes = b; len = l } in
+    ap₂ page (p.bytes ∙ sym q.bytes) (p.len ∙ sym q.len)

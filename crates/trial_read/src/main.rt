@@ -37,8 +37,8 @@ fn sum_of(t: Table) -> u64 {
 fn answer(rt: &impl Print, file: &[u8]) -> io::Result<()> {
     let loaded = table::read(file);
     let outcome = loaded.outcome;
-    let number = table::number(outcome);
-    let place = table::place(outcome);
+    let number = outcome.number();
+    let place = outcome.place();
     let sum = sum_of(loaded.table);
     println!(rt; "{number} {place} {sum}")
 }

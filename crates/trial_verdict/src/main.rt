@@ -15,7 +15,7 @@ use verdict::Verdict;
 fn change(input: &mut impl Read, file: &mut CaseFile, count: u8) -> io::Result<()> {
     for _ in 0..count {
         let at = u16::from_le_bytes(streams::next_padded(input)?);
-        let [b] = streams::next_padded(input)?;
+        let b = u8::from_le_bytes(streams::next_padded(input)?);
         file.put(usize::from(at), b);
     }
     Ok(())
@@ -50,7 +50,7 @@ fn run_case(
     if !file.read_next(input)? {
         return Ok(false);
     }
-    let [count] = streams::next_padded(input)?;
+    let count = u8::from_le_bytes(streams::next_padded(input)?);
     change(input, file, count)?;
     answer_file(rt, file.bytes(), page)?;
     Ok(true)

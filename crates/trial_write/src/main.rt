@@ -42,8 +42,8 @@ fn changed(input: &mut impl Read, base: Table, count: u8) -> io::Result<Table> {
 fn answer(rt: &impl Print, t: Table, buffer: &mut [u8]) -> io::Result<()> {
     buffer.fill(0xA5);
     let w = writer::write(t, buffer);
-    let number = table::writing_number(w);
-    let place = table::writing_place(w);
+    let number = w.number();
+    let place = w.place();
     let sum = cases::checksum_of(buffer);
     println!(rt; "{number} {place} {sum}")
 }
@@ -59,7 +59,7 @@ fn run_case(
         return Ok(false);
     }
     let base = table::read(file.bytes()).table;
-    let [count] = streams::next_padded(input)?;
+    let count = u8::from_le_bytes(streams::next_padded(input)?);
     let t = changed(input, base, count)?;
     let n = u16::from_le_bytes(streams::next_padded(input)?);
     answer(rt, t, &mut buffer[..usize::from(n)])?;

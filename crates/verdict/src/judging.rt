@@ -49,8 +49,8 @@ pub fn unread(o: Outcome) -> Verdict
     ensures { result ≡ unread o }
 {
     Verdict {
-        number: table::number(o),
-        place: table::place(o),
+        number: o.number(),
+        place: o.place(),
         task: 255,
         margin: 0,
         count: 0,

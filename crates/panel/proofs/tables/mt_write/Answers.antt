@@ -9,6 +9,6 @@ pub returns : goal.returns
 returns c =
     let w = c.write-w in
     let t = c.from in (
-      sym (answers_write _ t.result _ w.result _ _ t.ensures w.ensures.0 c.writing_number.ensures c.writing_place.ensures),
+      sym (answers_write _ t.result _ w.result _ _ t.ensures w.ensures.0 c.number.ensures c.place.ensures),
       w.ensures.1 ∙ ap (λ (x : Table). written x c.args.buffer.now) t.ensures,
     )
