@@ -6,8 +6,8 @@ use Prim.Native.Nat.{ℕ, zero, suc, ◌+◌, ◌*◌, ◌-◌, ◌/◌, ◌%◌
 use native.Mathlib.Omega.{arith}
 use native.Mathlib.Numerals.{add-one}
 use native.Mathlib.Nat.{add-zero, zero-add, sub-zero}
-use lib.ListN.{length, get_or, set, take, drop}
-use lib.Seq.{sets, sets-eq, drop-drop}
+use lib.ListN.{length, length-drop, get_or, set, take, drop}
+use lib.Seq.{sets, sets-eq, get_or-take, get_or-drop, length-take-le, drop-drop}
 use borrow.Rule.Slice.PartMut.{put_mid}
 use Rattle.std.specs.Int.{w32, to_le_bytes}
 use lib.Dec.{eqb}
@@ -61,6 +61,25 @@ costs_next costs slot v u h = join_next _ v u h
 pub costs_last : (costs : List ℕ) (slot v u : ℕ) → v ≤ u → costs_from costs slot v u ≡ []
 unfolding costs_from
 costs_last costs slot v u h = join_end _ v u h
+
+-- those of a part of the row
+same_costs : (k j slot : ℕ) (l costs : List ℕ) → ((u : ℕ) → u < j + k → get_or l (0 + u) 0 ≡ get_or costs (slot + u) 0)
+    → join_from k j (λ u. bytes4 (get_or l (0 + u) 0)) ≡ join_from k j (λ u. bytes4 (get_or costs (slot + u) 0))
+unfolding join_from
+same_costs zero j slot l costs h = refl
+same_costs (suc k) j slot l costs h =
+    ap (λ (x : ℕ). bytes4 x ++ join_from k (suc j) (λ u. bytes4 (get_or l (0 + u) 0))) (h j (omega arith))
+    ∙ ap (λ (r : List ℕ). bytes4 (get_or costs (slot + j) 0) ++ r) (same_costs k (suc j) slot l costs (λ u b. h u (omega arith)))
+
+pub part_costs : (costs : List ℕ) (slot n v : ℕ) → n ≡ v → slot + v ≤ length costs
+    → cost_bytes (take n (drop slot costs)) 0 (length (take n (drop slot costs))) ≡ cost_bytes costs slot v
+unfolding cost_bytes in_order
+part_costs costs slot n v e h =
+    let l = take n (drop slot costs) in
+    let d = length-drop slot costs in
+    let m : length l ≡ v = length-take-le n (drop slot costs) (omega arith) ∙ e in
+    rw m (same_costs v 0 slot l costs (λ u b.
+    ap (λ (i : ℕ). get_or l i 0) (zero-add u) ∙ get_or-take n (drop slot costs) u 0 (omega arith) ∙ get_or-drop slot costs u 0))
 
 pub four_long : (x : ℕ) → length (bytes4 x) ≡ 4
 unfolding bytes4

@@ -33,13 +33,13 @@ impl Pen<'_> {
         self.bytes(&x.to_le_bytes());
     }
 
-    // The costs of a task of v vertices, from a slot of the row on.
-    fn costs(&mut self, costs: &[u32; 256], slot: usize, v: usize)
-        requires { (slot + v ≤ 256) × HasRoom self.old (cost_bytes costs.now slot v) }
-        ensures { Puts self.old self.new (cost_bytes costs.now slot v) }
+    // The costs of a task's vertices, one behind the other.
+    fn costs(&mut self, costs: &[u32])
+        requires { HasRoom self.old (cost_bytes costs.now 0 (length costs.now)) }
+        ensures { Puts self.old self.new (cost_bytes costs.now 0 (length costs.now)) }
     {
-        for u in 0..v {
-            self.number(costs[slot + u]);
+        for &cost in costs {
+            self.number(cost);
         }
     }
 
@@ -74,7 +74,7 @@ impl Pen<'_> {
         self.bytes(&[0x54, 0x4B, task.v, e as u8]);
         self.number(task.d);
         self.number(task.t);
-        self.costs(costs, slot, v);
+        self.costs(&costs[slot..slot + v]);
         self.edges(task.succ, v);
     }
 

@@ -1,9 +1,11 @@
 use mathlib.Core.Path.{◌≡◌, sym, ◌∙◌}
+use Prim.Native.Nat.{◌+◌, ◌-◌}
 use native.Mathlib.Omega.{arith}
 use lib.ListN.{length}
 use Rattle.checks.specs.Checking.{keys_of}
 use Rattle.checks.proofs.TestLaws.{edges_counted}
 use Rattle.writer.specs.Putting.{task_bytes}
+use Rattle.writer.proofs.PutLaws.{part_costs}
 use Rattle.writer.proofs.PenLaws.{puts_then, room_first, room_rest, task_parts}
 use Rattle.writer.proofs.writing.Pen.task.Goals as goal
 
@@ -43,7 +45,7 @@ costs-requires c =
     let r₃ = room_rest r₂ c.number-2.ensures in
     let v = c.requires.in_range.0 in
     let s = c.requires.in_range.2 in
-    rw c.from-v.ensures (omega arith, room_first _ r₃)
+    rw (c.from-v.ensures, part_costs a.costs.now a.slot (a.slot + a.task.v - a.slot) a.task.v (omega arith) (omega arith)) (room_first _ r₃)
 
 pub edges-requires : goal.edges-requires
 edges-requires c =
@@ -51,7 +53,9 @@ edges-requires c =
     let r₁ = room_rest (task_parts a.task a.costs.now a.slot c.edges_of-e.result c.requires.has_room) c.bytes.ensures in
     let r₂ = room_rest r₁ c.number.ensures in
     let r₃ = room_rest r₂ c.number-2.ensures in
-    let r₄ = room_rest r₃ (rw c.from-v.ensures at c.costs.ensures) in
+    let v = c.requires.in_range.0 in
+    let s = c.requires.in_range.2 in
+    let r₄ = room_rest r₃ (rw (c.from-v.ensures, part_costs a.costs.now a.slot (a.slot + a.task.v - a.slot) a.task.v (omega arith) (omega arith)) at c.costs.ensures) in
     rw c.from-v.ensures (c.requires.in_range.0, r₄)
 
 pub returns : goal.returns
@@ -62,6 +66,8 @@ returns c =
     let f : c.edges_of-e.result ≡ length (keys_of a.task.v a.task.succ) =
     rw v at c.edges_of-e.ensures ∙ sym (edges_counted a.task.v a.task.succ c.requires.in_range.0) in
     let h = rw f at c.bytes.ensures in
-    let k = rw v at c.costs.ensures in
+    let v₂ = c.requires.in_range.0 in
+    let s = c.requires.in_range.2 in
+    let k = rw (v, part_costs a.costs.now a.slot (a.slot + a.task.v - a.slot) a.task.v (omega arith) (omega arith)) at c.costs.ensures in
     let g = rw v at c.edges.ensures in
     puts_then h (puts_then c.number.ensures (puts_then c.number-2.ensures (puts_then k g)))
