@@ -16,27 +16,43 @@ overflow_cast-e c =
     let e = c.requires.in_range.1 in
     omega arith
 
+-- room for each part, once those before it are put
 pub bytes-requires : goal.bytes-requires
-bytes-requires c = room_first _ (task_parts c.args.task c.args.costs.now c.args.slot c.edges_of-e.result c.requires.has_room)
+bytes-requires c =
+    let a = c.args in
+    room_first _ (task_parts a.task a.costs.now a.slot c.edges_of-e.result c.requires.has_room)
 
 pub number-requires : goal.number-requires
-number-requires c = room_first _ (room_rest (task_parts c.args.task c.args.costs.now c.args.slot c.edges_of-e.result c.requires.has_room) c.bytes.ensures)
+number-requires c =
+    let a = c.args in
+    let r₁ = room_rest (task_parts a.task a.costs.now a.slot c.edges_of-e.result c.requires.has_room) c.bytes.ensures in
+    room_first _ r₁
 
 pub number-requires-2 : goal.number-requires-2
-number-requires-2 c = room_first _ (room_rest (room_rest (task_parts c.args.task c.args.costs.now c.args.slot c.edges_of-e.result c.requires.has_room) c.bytes.ensures) c.number.ensures)
+number-requires-2 c =
+    let a = c.args in
+    let r₁ = room_rest (task_parts a.task a.costs.now a.slot c.edges_of-e.result c.requires.has_room) c.bytes.ensures in
+    let r₂ = room_rest r₁ c.number.ensures in
+    room_first _ r₂
 
 pub costs-requires : goal.costs-requires
 costs-requires c =
+    let a = c.args in
+    let r₁ = room_rest (task_parts a.task a.costs.now a.slot c.edges_of-e.result c.requires.has_room) c.bytes.ensures in
+    let r₂ = room_rest r₁ c.number.ensures in
+    let r₃ = room_rest r₂ c.number-2.ensures in
     let v = c.requires.in_range.0 in
     let s = c.requires.in_range.2 in
-    let r = room_rest (room_rest (room_rest (task_parts c.args.task c.args.costs.now c.args.slot c.edges_of-e.result c.requires.has_room) c.bytes.ensures) c.number.ensures) c.number-2.ensures in
-    rw c.from-v.ensures (omega arith, room_first _ r)
+    rw c.from-v.ensures (omega arith, room_first _ r₃)
 
 pub edges-requires : goal.edges-requires
 edges-requires c =
-    let r = room_rest (room_rest (room_rest (task_parts c.args.task c.args.costs.now c.args.slot c.edges_of-e.result c.requires.has_room) c.bytes.ensures) c.number.ensures) c.number-2.ensures in
-    let k = rw c.from-v.ensures at c.costs.ensures in
-    rw c.from-v.ensures (c.requires.in_range.0, room_rest r k)
+    let a = c.args in
+    let r₁ = room_rest (task_parts a.task a.costs.now a.slot c.edges_of-e.result c.requires.has_room) c.bytes.ensures in
+    let r₂ = room_rest r₁ c.number.ensures in
+    let r₃ = room_rest r₂ c.number-2.ensures in
+    let r₄ = room_rest r₃ (rw c.from-v.ensures at c.costs.ensures) in
+    rw c.from-v.ensures (c.requires.in_range.0, r₄)
 
 pub returns : goal.returns
 unfolding task_bytes
