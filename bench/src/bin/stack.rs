@@ -9,7 +9,7 @@ use second::random::{busy_table, file, journal, largest_table, Random};
 use second::table::LARGEST;
 use std::mem::size_of;
 
-const SPACE: usize = 1 << 16;
+const SPACE: usize = 1 << 17;
 const PAINT: u8 = 0xC7;
 const INPUTS: u64 = 5_000;
 

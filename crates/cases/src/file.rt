@@ -7,7 +7,7 @@ use std::io::Read;
 use std::marker::Model;
 use streams::SIZED_ROOM;
 
-// The bytes that stand at a buffer's front.
+// The bytes that stand at a buffer's front: memory is fixed.
 #[derive(Drop)]
 pub struct CaseFile {
     buf: [u8; SIZED_ROOM],

@@ -1,4 +1,6 @@
 // The longest chain by name (document 02, M-102): of the chains with the largest sum the one whose list is first. The definitions are in specs/Chains.antt.
+// Whether there is a cycle is asked once, in `longest_chain`: a type for a graph without one would be made there and taken apart in the three
+// functions below it.
 ghost use Rattle.std.specs.Prelude.{◌≡◌, true, false, ℕ, ◌<◌, get_or, MatchOption};
 ghost use Rattle.graph.specs.Words.{pick, bit, largest};
 ghost use Rattle.graph.specs.Graph.{edge, acyclic, longest_from};

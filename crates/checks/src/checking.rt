@@ -1,5 +1,5 @@
 // The writer's tests 3 to 7 on the table itself, in file order: specs/Checking.antt. Each answers the refusal, or the place after what
-// it tested.
+// it tested, and takes the row of costs, a task's slot in it and the place, as its definition does; the bounds that it asks for are plain numbers'.
 ghost use Rattle.std.specs.Prelude.{◌≡◌, ◌+◌, ◌*◌, ◌≤◌, ◌<◌, length};
 ghost use Rattle.table.specs.Reading.{ranged};
 ghost use Rattle.checks.specs.Checking.{row_keys, keys_of, edges_of, edges_tested, costs_tested, used_rows, parts_tested, task_tested, tasks_tested, checked};

@@ -1,5 +1,6 @@
 // The tests of what a row lists, 44 to 46, against the available vertices: those of a slot, 16 times age place plus task, are a set of sixteen bits. The
-// definitions are in specs/Rows.antt, and those of the parts in specs/Listing.antt.
+// definitions are in specs/Rows.antt, and those of the parts in specs/Listing.antt. Each test takes what
+// the one before has shown of the row.
 ghost use Rattle.std.specs.Prelude.{◌≡◌, true, ◌&&◌, ◌||◌, not, ℕ, ◌%◌, ◌≤◌, ◌<◌, min, length, get_or, ltb, leb, eqb, sum_by};
 ghost use Rattle.std.specs.Int.Count.{ones};
 ghost use Rattle.graph.specs.Words.{bit, all, row as row_of, largest};

@@ -22,6 +22,8 @@ fn is_stopped(phase: Phase) -> bool
     matches!(phase, Phase::Stopped(_))
 }
 
+// A table that is `Narrow` is `judge_piece`'s to tell from others: a type for it would be made there and taken apart in each function between.
+
 // The row at a place, once the refusals of its bytes and of its release set are past, in order.
 fn checked_row<'a>(t: Table, st: State, bytes: &'a [u8], at: usize) -> Result<Row<'a>, Fault>
     requires { Narrow t }

@@ -1,5 +1,6 @@
 // A state's tasks taken apart for a tick: the set of slots with a live job, and their deadlines, and the waits of the tasks, in rows that can be
 // lent. Slot 16 * p + i is age place p of task i: so the oldest jobs of all tasks come first, and what remains and the work lie in their order.
+// A slot is a number and no type of its own: it comes from a range or a set, and is an index at once.
 ghost use Rattle.std.specs.Prelude.{◌≡◌, ℕ, Bool, ◌&&◌, ◌+◌, ◌-◌, ◌*◌, ◌<◌, slice_index, slice_index_or};
 ghost use Rattle.graph.specs.Words.{pick, bit, row, set_of};
 ghost use Rattle.machine.specs.declared.Job.TheVariants.{Nothing, Live};

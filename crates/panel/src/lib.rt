@@ -1,5 +1,6 @@
 // The C face: functions that a program in C or Rust calls, and the answers that they hand back. include/milltundra.h declares them. No struct has
-// padding: what would be is a field of zeros, `pad`, so that equal answers are equal bytes.
+// padding: what would be is a field of zeros, `pad`, so that equal answers are equal bytes;
+// and numbers and flags stand for cases, as C has them.
 #![tactic(auto)]
 
 mod judging;

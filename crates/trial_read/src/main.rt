@@ -43,7 +43,8 @@ fn answer(rt: &impl Print, file: &[u8]) -> io::Result<()> {
     println!(rt; "{number} {place} {sum}")
 }
 
-// One case; false where the input ends.
+// One case; false where the input ends. As in trial_watch, about another answer: one function for both would take it as a closure, with what it
+// asks of each call, and be longer than the two.
 fn run_case(rt: &impl Print, input: &mut impl Read, buf: &mut [u8]) -> io::Result<bool> {
     let Some(n) = streams::read_sized(input, buf)? else {
         return Ok(false);

@@ -36,7 +36,8 @@ pub fn chained(t: &Table, d: Decided) -> Verdict
     with_chain(d, t.tasks[k].succ, own)
 }
 
-// The verdict on a good table.
+// The verdict on a good table. `GoodTable` is what reading has shown of one: a type around the table would be made where it was read and taken
+// apart at its first use.
 fn verdict_on(t: &Table) -> Verdict
     requires { GoodTable t.now }
     ensures { result ≡ verdict_on t.now }
