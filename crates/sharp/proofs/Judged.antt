@@ -13,7 +13,7 @@ use Rattle.graph.proofs.Facts.{sum_same, lowest_or_none}
 use Rattle.table.specs.declared.Table.{Table}
 use Rattle.table.specs.declared.Outcome.TheVariants.{Read}
 use Rattle.table.specs.declared.Loaded.{Loaded}
-use Rattle.table.specs.Memory.{vertices, D, T, succ, cost}
+use Rattle.table.specs.Memory.{vertices, D, T, cost}
 use Rattle.table.specs.Reading.{read}
 use Rattle.table.specs.Good.{GoodTable}
 use Rattle.table.proofs.PartLaws.{told_other, not_read}
@@ -21,12 +21,13 @@ use Rattle.verdict.specs.declared.Decided.{Decided}
 use Rattle.verdict.specs.declared.Verdict.{Verdict}
 use Rattle.verdict.specs.declared.Findings.{Findings}
 use Rattle.verdict.specs.Verdicts.{len, rounded_up, unread, up_to, no_findings}
-use Rattle.verdict.specs.Judging.{judged_by}
-use Rattle.verdict.specs.Measured.{decided, with_chain}
+use Rattle.verdict.specs.Judging.{judged_some, judged_by}
+use Rattle.verdict.specs.Measured.{decided, with_chain, own_succ}
 use Rattle.verdict.proofs.Amounts.{vol_high, len_vol, due_bound}
 use Rattle.verdict.proofs.Orders.{lowest_or_map}
+use Rattle.verdict.proofs.Walk.{judged_is}
 use Rattle.verdict.proofs.Figured.{up_to_at}
-use Rattle.verdict.proofs.Judged.{good_read, chain_named}
+use Rattle.verdict.proofs.Judged.{good_read, succ_there, chain_named}
 use Rattle.sharp.specs.declared.gathering.Gathering.{Gathering}
 use Rattle.sharp.specs.Sharp.{tail_of, asked, due_from, sharp_due, sharp_margin, sharp_naming, sharp_on, sharp_read, sharp, sharp_findings_on, sharp_findings_read, sharp_findings}
 use Rattle.sharp.specs.Closed.{part, asked_from, due_by}
@@ -114,10 +115,11 @@ module _ (t : Table) (good : GoodTable t) (x : Gathering) (h : Gathered t x) whe
 
   -- the search over the margins finds what the definition then names
   pub decided_by : NoneLate x → judged_by t.n 23 (sharp_margin t) ≡ decided (sharp_on t)
-  unfolding judged_by decided sharp_on sharp_naming late
+  unfolding judged_some decided sharp_on sharp_naming late
   decided_by none =
       let other : Verdict = sharp_naming 0 t (lowest 255 t.n (λ k. all t.n (λ i. le_z (sharp_margin t k) (sharp_margin t i)))) in
-      sym (
+      judged_is t.n 23 (sharp_margin t) good.n_low
+      ∙ sym (
       ap decided (lowest_or_none t.n (late t) (sharp_naming 22 t) _ (λ k b. sym (late_is k b) ∙ none k (omega (arith, h.n_is))))
       ∙ lowest_or_map decided t.n (λ k. lt_z (sharp_margin t k) (pos 0)) (sharp_naming 23 t) other
       )
@@ -128,9 +130,11 @@ module _ (t : Table) (good : GoodTable t) (d : Decided) (e : d ≡ decided (shar
   unfolding decided
   task_there = let b = sharp_named_below t good in omega (arith, ap (λ (x : Decided). x.task) e)
 
-  pub with_chain_lem : (own : List ℕ) → own ≡ row 16 (λ u. get_or t.costs (16 * d.task + u) 0) → with_chain d (succ t d.task) own ≡ sharp_on t
+  pub with_chain_lem : (own : List ℕ) → own ≡ row 16 (λ u. get_or t.costs (16 * d.task + u) 0) → with_chain d (own_succ t d.task) own ≡ sharp_on t
   unfolding sharp_naming
-  with_chain_lem own o = chain_named t good (sharp_on t) (sharp_names t good) (sharp_named_below t good) d e own o
+  with_chain_lem own o =
+      ap (λ (l : List ℕ). with_chain d l own) (succ_there t d.task (omega (arith, task_there, good.n_high)))
+      ∙ chain_named t good (sharp_on t) (sharp_names t good) (sharp_named_below t good) d e own o
 
 -- ---- what a report shows
 pub all_found : (t : Table) (x : Gathering) (dues : List ℕ) (v : Verdict) → Gathered t x → dues ≡ up_to t.n (sharp_due t) → v ≡ sharp_on t

@@ -8,16 +8,16 @@ use verdict::Decided;
 // A row of sixteen for each, beside the table's costs and its tails, and no array of tasks: `Findings`, which reports show, takes the rows as
 // they are.
 #[derive(Drop)]
-pub struct Gathering<'a> {
-    pub m: u8,
-    pub n: u8,
-    pub deadlines: [u32; 16],
-    pub periods: [u32; 16],
-    pub counts: [u8; 16],
-    pub vols: [u64; 16],
-    pub lens: [u64; 16],
-    pub costs: &'a [u32; 256],
-    pub tails: &'a [u32; 256],
+pub(crate) struct Gathering<'a> {
+    pub(crate) m: u8,
+    pub(crate) n: u8,
+    pub(crate) deadlines: [u32; 16],
+    pub(crate) periods: [u32; 16],
+    pub(crate) counts: [u8; 16],
+    pub(crate) vols: [u64; 16],
+    pub(crate) lens: [u64; 16],
+    pub(crate) costs: &'a [u32; 256],
+    pub(crate) tails: &'a [u32; 256],
     ghost in_range: { InRange n deadlines periods counts costs.now },
 }
 
@@ -32,7 +32,7 @@ impl<'a> Gathering<'a> {
     ghost use Rattle.sharp.specs.Gathered.{Gathered, due_in, margin_in, NoneLate, FirstLate};
 
     // Those of a good table; its tails go to the row that is lent.
-    pub fn of(t: &'a Table, tails: &'a mut [u32; 256]) -> Self
+    pub(crate) fn of(t: &'a Table, tails: &'a mut [u32; 256]) -> Self
         requires { GoodTable t.now × (length tails.old ≡ 256) }
         ensures { Gathered t.now result }
     {
@@ -66,7 +66,7 @@ impl<'a> Gathering<'a> {
     }
 
     // What all tasks ask for within task k's deadline.
-    pub fn due(&self, k: usize) -> u64
+    pub(crate) fn due(&self, k: usize) -> u64
         requires { k < self.now.n }
         ensures { result ≡ due_in self.now k }
     {
@@ -80,7 +80,7 @@ impl<'a> Gathering<'a> {
     }
 
     // The sharp margin of task k.
-    pub fn margin(&self, k: usize) -> i64
+    pub(crate) fn margin(&self, k: usize) -> i64
         requires { k < self.now.n }
         ensures { result ≡ margin_in self.now k }
     {
@@ -88,7 +88,7 @@ impl<'a> Gathering<'a> {
     }
 
     // The sharp due work for each task of the table.
-    pub fn dues(&self) -> [u64; 16]
+    pub(crate) fn dues(&self) -> [u64; 16]
         ensures { (t : Table) → GoodTable t → Gathered t self.now → result ≡ up_to t.n (sharp_due t) }
     {
         verdict::figures_up_to(self.n, |k| self.due(k))
@@ -102,7 +102,7 @@ impl<'a> Gathering<'a> {
     }
 
     // The sharp verdict on the table, before a chain is looked for. A chain that is too long is looked for over all tasks first.
-    pub fn judged(&self) -> Decided
+    pub(crate) fn judged(&self) -> Decided
         ensures { (t : Table) → GoodTable t → Gathered t self.now → result ≡ decided (sharp_on t) }
     {
         if let Some(k) = self.first_late() {

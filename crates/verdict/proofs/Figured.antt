@@ -91,6 +91,17 @@ filled_up_to {f} {n} {a} r =
     at i true e = r.each i (ltb-true i n e)
     at i false e = r.rest i (ltb-false i n e)
 
+-- the first n of them for which the row has room
+pub filled_room : {f : ℕ → ℕ} (n : ℕ) {a : List ℕ} → Filled f (min n 16) a → a ≡ up_to n f
+unfolding up_to
+filled_room {f} n {a} r =
+    ext_get_or 0 a (row 16 (λ k. pick (ltb k n) (f k) 0)) (r.size ∙ sym (length_row 16 _))
+    (λ i h. let l : i < 16 = omega (arith, r.size) in at i l (ltb i n) refl ∙ sym (row_at 16 (λ k. pick (ltb k n) (f k) 0) i 0 l))
+  where
+    at : (i : ℕ) → i < 16 → (b : Bool) → ltb i n ≡ b → get_or a i 0 ≡ pick b (f i) 0
+    at i l true e = r.each i (omega (arith, ltb-true i n e))
+    at i l false e = r.rest i (omega (arith, ltb-false i n e))
+
 pub up_to_at : (n k : ℕ) (f : ℕ → ℕ) → k < n → n ≤ 16 → get_or (up_to n f) k 0 ≡ f k
 unfolding up_to
 up_to_at n k f b h = row_at 16 (λ k. pick (ltb k n) (f k) 0) k 0 (omega arith) ∙ ap (λ (c : Bool). pick c (f k) 0) (lt-ltb k n b)

@@ -13,7 +13,7 @@ use Rattle.table.specs.declared.Table.{Table}
 use Rattle.table.specs.declared.Outcome.{Outcome}
 use Rattle.table.specs.declared.Outcome.TheVariants.{Read}
 use Rattle.table.specs.declared.Loaded.{Loaded}
-use Rattle.table.specs.Memory.{succ}
+use Rattle.table.specs.Memory.{no_succ, succ}
 use Rattle.table.specs.Reading.{read}
 use Rattle.table.specs.Good.{GoodTable}
 use Rattle.table.proofs.Sound.{read_good}
@@ -26,9 +26,10 @@ use Rattle.verdict.specs.declared.measuring.Measures.{Measures}
 use Rattle.verdict.specs.declared.Figures.{Figures}
 use Rattle.verdict.specs.declared.Findings.{Findings}
 use Rattle.verdict.specs.Verdicts.{vol, len, due, margin, chain, in_places, naming, verdict_on, unread, verdict_read, verdict, figures_on, no_figures, figures_read, figures, up_to, findings_on, no_findings, findings_read, findings}
-use Rattle.verdict.specs.Judging.{judged_by}
-use Rattle.verdict.specs.Measured.{Holds, decided, with_chain}
+use Rattle.verdict.specs.Judging.{judged_some, judged_by}
+use Rattle.verdict.specs.Measured.{Holds, decided, with_chain, own_succ}
 use Rattle.verdict.proofs.Orders.{lowest_or_map}
+use Rattle.verdict.proofs.Walk.{judged_is}
 use Rattle.verdict.proofs.Says.{named_below, names}
 use Rattle.verdict.proofs.Figured.{chain_found}
 
@@ -45,11 +46,21 @@ chain_named t good v named b d e own o =
     ∙ ap (λ (x : Verdict). record { number = x.number; place = 0; task = v.task; margin = x.margin; count = length (chain t v.task); chain = in_places (chain t v.task) }) named
     ∙ sym named
 
+-- a task that the table has room for has its own successors, and another has none
+pub succ_there : (t : Table) (k : ℕ) → k < 16 → own_succ t k ≡ succ t k
+unfolding own_succ
+succ_there t k b = rw (lt-ltb k 16 b)
+
+pub succ_none : (t : Table) (k : ℕ) → 16 ≤ k → own_succ t k ≡ replicate 16 0
+unfolding own_succ no_succ
+succ_none t k b = rw (le-ltb k 16 b)
+
 -- the search over a table's margins finds what the definition names
-pub decided_by : (t : Table) → judged_by t.n 20 (margin t) ≡ decided (verdict_on t)
-unfolding judged_by decided verdict_on naming
-decided_by t =
-    sym (lowest_or_map decided t.n (λ k. lt_z (margin t k) (pos 0)) (naming 20 t) (naming 0 t (lowest 255 t.n (λ k. all t.n (λ i. le_z (margin t k) (margin t i))))))
+pub decided_by : (t : Table) → GoodTable t → judged_by t.n 20 (margin t) ≡ decided (verdict_on t)
+unfolding judged_some decided verdict_on naming
+decided_by t good =
+    judged_is t.n 20 (margin t) good.n_low
+    ∙ sym (lowest_or_map decided t.n (λ k. lt_z (margin t k) (pos 0)) (naming 20 t) (naming 0 t (lowest 255 t.n (λ k. all t.n (λ i. le_z (margin t k) (margin t i))))))
 
 module _ (t : Table) (good : GoodTable t) where
   -- ---- the task is known, and its chain is looked for
@@ -58,9 +69,11 @@ module _ (t : Table) (good : GoodTable t) where
     unfolding decided
     task_there = let b = named_below t good in omega (arith, ap (λ (x : Decided). x.task) e)
 
-    pub with_chain_lem : (own : List ℕ) → own ≡ row 16 (λ u. get_or t.costs (16 * d.task + u) 0) → with_chain d (succ t d.task) own ≡ verdict_on t
+    pub with_chain_lem : (own : List ℕ) → own ≡ row 16 (λ u. get_or t.costs (16 * d.task + u) 0) → with_chain d (own_succ t d.task) own ≡ verdict_on t
     unfolding decided naming
-    with_chain_lem own o = chain_named t good (verdict_on t) (names t good) (named_below t good) d e own o
+    with_chain_lem own o =
+        ap (λ (l : List ℕ). with_chain d l own) (succ_there t d.task (omega (arith, task_there, good.n_high)))
+        ∙ chain_named t good (verdict_on t) (names t good) (named_below t good) d e own o
 
 -- what the code lists: z is the margin as the machine reads it back from its bits
 pub chain_listed : (d : Decided) (next own : List ℕ) (c : ChainFound) (z : ℤ) → c ≡ longest_chain next own → z ≡ d.margin

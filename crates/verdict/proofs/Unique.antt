@@ -1,6 +1,6 @@
 -- For each public function: any two results that its contract allows are equal. The contract is the one that the checker reads from the source.
 use mathlib.Core.Path.{◌≡◌, sym, ◌∙◌}
-use Prim.Native.Nat.{ℕ, ◌<◌}
+use Prim.Native.Nat.{ℕ, ◌<◌, min}
 use lib.IntN.{ℤ}
 use contract.Lifetimes.{Lfts}
 use denote.RattleType.{RattleType}
@@ -88,6 +88,6 @@ judge_one F laws calls d e f g κs args x y s t z is h k = by_function z is h k
 pub figures_up_to_one : (F : RattleType) (laws : Laws F) (calls : figures-up-to-fn.Ghosts F) (d e f g : Dict) (κs : Lfts 1)
     (args : Dens κs (figures-up-to-kinds.ps F laws)) (x y : (res_t (figures-up-to-kinds.r F laws) κs).Denot)
     (s t : AtExit (ended_of 1 (figures-up-to-kinds.ps F laws) (figures-up-to-kinds.r F laws)) κs)
-    → (z : ℕ → ℕ) → ((k r : ℕ) → k < args.0 → (figures-up-to-fn.words F calls).post args.1.0 k r → r ≡ z k)
+    → (z : ℕ → ℕ) → ((k r : ℕ) → k < min args.0 16 → (figures-up-to-fn.words F calls).post args.1.0 k r → r ≡ z k)
     → figures-up-to-reads.Post F laws calls d e f g κs args x s → figures-up-to-reads.Post F laws calls d e f g κs args y t → x ≡ y
 figures_up_to_one F laws calls d e f g κs args x y s t z is h k = by_function z is h k

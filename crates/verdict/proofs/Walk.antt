@@ -9,12 +9,17 @@ use native.Mathlib.Omega.{arith}
 use native.Mathlib.Decide.{ℕ_discrete}
 use lib.IntN.{ℤ, pos, negsuc}
 use lib.Signed.{mag, lt_z, le_z, ◌≤ℤ◌, ◌<ℤ◌, clash_ℤ}
-use borrow.Author.Tests.{le-leb}
+use borrow.Author.Tests.{le-leb, ne_eqb}
 use Rattle.graph.specs.Words.{all}
 use Rattle.graph.proofs.Facts.{clash, all_of, all_at, all_not, off_when, lowest_is, lowest_or_none}
 use Rattle.verdict.specs.declared.Decided.{Decided}
-use Rattle.verdict.specs.Judging.{judged_by}
+use Rattle.verdict.specs.Judging.{judged_some, none_judged, judged_by}
 use Rattle.verdict.proofs.Orders.{le_yes, lt_yes, not_lt, lt_le, le_refl, le_trans, le_antisym, smallest, Lowest, search_low, lowest_or_is}
+
+-- of one number or more it is what the search over them comes to
+pub judged_is : (n number : ℕ) (z : ℕ → ℤ) → 1 ≤ n → judged_by n number z ≡ judged_some n number z
+unfolding judged_by
+judged_is n number z some = rw (ne_eqb n 0 (λ e. omega (arith, e, some)))
 
 -- ---- what is looked for: the first negative number
 pub record FirstNegative (z : ℕ → ℤ) (n k : ℕ) : Type 0 where
@@ -135,11 +140,12 @@ module _ (z : ℕ → ℤ) (top : ℤ) (n k first : ℕ) (best : ℤ) (b : k < n
 
   -- the end at the first negative number
   pub met_negative : (number : ℕ) → lt_z y (pos 0) ≡ true → (record { number = number; task = k; margin = y }) ≡ judged_by n number z
-  unfolding judged_by negative
+  unfolding judged_some negative
   met_negative number p =
       let named : ℕ → ℕ → Decided = λ x j. record { number = x; task = j; margin = z j } in
       ap (λ (x : ℤ). record { number = number; task = k; margin = x }) its
       ∙ sym (lowest_or_is n (negative z) (named number) _ k (b, sym (ap (λ (x : ℤ). lt_z x (pos 0)) its) ∙ p, s.passes))
+      ∙ sym (judged_is n number z (omega arith))
 
 -- the other end: none is negative, and `first` is the first of the smallest
 pub all_walked : (z : ℕ → ℤ) (top : ℤ) (n : ℕ) → 1 ≤ n → (first : ℕ) (best : ℤ) → SoFar z top n first best
@@ -156,11 +162,19 @@ all_walked z top n some first best s = ⊎_elim
     lower : first < n → best ≡ z first → (j : ℕ) → lt_z best (z j) ≡ true → least z n j ≡ false
     lower b e j l = off_when (least z n j) (λ h. lt_not_le best (z j) l (ap (le_z (z j)) e ∙ all_at n (λ i. le_z (z j) (z i)) h first b))
 
-pub all_passed : (z : ℕ → ℤ) (top : ℤ) (n number : ℕ) → 1 ≤ n → (first : ℕ) (best : ℤ) → SoFar z top n first best
-    → (record { number = 0; task = first; margin = best }) ≡ judged_by n number z
-unfolding judged_by negative least
-all_passed z top n number some first best s =
+some_passed : (z : ℕ → ℤ) (top : ℤ) (n number : ℕ) → 1 ≤ n → (first : ℕ) (best : ℤ) → SoFar z top n first best
+    → (record { number = 0; task = first; margin = best }) ≡ judged_some n number z
+unfolding judged_some negative least
+some_passed z top n number some first best s =
     let r = all_walked z top n some first best s in
     let named : ℕ → ℕ → Decided = λ x j. record { number = x; task = j; margin = z j } in
     ap (λ (x : ℤ). record { number = 0; task = first; margin = x }) r.1
     ∙ sym (lowest_or_none n (negative z) (named number) _ r.0 ∙ ap (named 0) (lowest_is 255 n (least z n) first r.2.0 r.2.1 r.2.2))
+
+pub all_passed : (z : ℕ → ℤ) (n number first : ℕ) (best : ℤ) → SoFar z (pos 9223372036854775807) n first best
+    → (record { number = 0; task = first; margin = best }) ≡ judged_by n number z
+unfolding judged_by none_judged
+all_passed z n number first best s = ⊎_elim
+    (λ w. rw (w.0, w.1, w.2) refl)
+    (λ w. let some : 1 ≤ n = omega (arith, w.0) in some_passed z _ n number some first best s ∙ sym (judged_is n number z some))
+    s.which

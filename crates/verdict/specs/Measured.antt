@@ -1,9 +1,9 @@
 -- What the code works on, for the contracts of its parts: the measures of a table's tasks, a row of sixteen for each.
-use Rattle.std.specs.Prelude.{◌≡◌, List, ℕ, ◌+◌, ◌*◌, ◌-◌, ◌^◌, ◌<◌, min, length, get_or, ℤ, pos, ◌-ℤ◌}
-use Rattle.graph.specs.Words.{sum}
+use Rattle.std.specs.Prelude.{◌≡◌, List, ℕ, ◌+◌, ◌*◌, ◌-◌, ◌^◌, ◌<◌, min, length, get_or, ltb, ℤ, pos, ◌-ℤ◌}
+use Rattle.graph.specs.Words.{pick, sum}
 use Rattle.chains.specs.Chains.{chain_of}
 use Rattle.table.specs.declared.Table.{Table}
-use Rattle.table.specs.Memory.{D, T}
+use Rattle.table.specs.Memory.{no_succ, D, T, succ}
 use Rattle.verdict.specs.declared.measuring.Measures.{Measures}
 use Rattle.verdict.specs.declared.Decided.{Decided}
 use Rattle.verdict.specs.declared.Verdict.{Verdict}
@@ -43,3 +43,7 @@ with_chain d succ own = record {
   count = length (chain_of succ own);
   chain = in_places (chain_of succ own);
 }
+
+-- a task's successors; of a task that the table does not have, none
+unfoldable pub own_succ : Table → ℕ → List ℕ
+own_succ t k = pick (ltb k 16) (succ t k) no_succ

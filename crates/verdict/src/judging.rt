@@ -1,10 +1,9 @@
 // The verdict on a table and on a file, and the figures of a file's task: document 01, "The verdict".
-ghost use Rattle.std.specs.Prelude.{◌≡◌, ◌+◌, ◌*◌, ◌<◌, get_or};
+ghost use Rattle.std.specs.Prelude.{◌≡◌, ◌+◌, ◌*◌, get_or};
 ghost use Rattle.graph.specs.Words.{row};
-ghost use Rattle.table.specs.Memory.{succ};
 ghost use Rattle.table.specs.Good.{GoodTable};
 ghost use Rattle.verdict.specs.Verdicts.{verdict_on, unread, verdict, no_figures, figures};
-ghost use Rattle.verdict.specs.Measured.{with_chain};
+ghost use Rattle.verdict.specs.Measured.{own_succ, with_chain};
 
 use crate::measuring::Measures;
 use crate::{Decided, Figures, Verdict, figuring};
@@ -26,14 +25,18 @@ pub fn with_chain(d: Decided, succ: [u16; 16], own: [u32; 16]) -> Verdict
     }
 }
 
-// A verdict on a table when its task is known: that task's chain is looked for, and no other's.
+// A verdict on a table when its task is known: that task's chain is looked for, and no other's. A task that the table does not have has no
+// successors, and costs of zero.
 pub fn chained(t: &Table, d: Decided) -> Verdict
-    requires { d.task < 16 }
-    ensures { result ≡ with_chain d (succ t.now d.task) (row 16 (λ u. get_or t.now.costs (16 * d.task + u) 0)) }
+    ensures { result ≡ with_chain d (own_succ t.now d.task) (row 16 (λ u. get_or t.now.costs (16 * d.task + u) 0)) }
 {
     let k = usize::from(d.task);
+    let succ = match t.tasks.get(k) {
+        Some(task) => task.succ,
+        None => [0; 16],
+    };
     let own = figuring::own_costs(&t.costs, k);
-    with_chain(d, t.tasks[k].succ, own)
+    with_chain(d, succ, own)
 }
 
 // The verdict on a good table. `GoodTable` is what reading has shown of one: a type around the table would be made where it was read and taken

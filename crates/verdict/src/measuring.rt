@@ -6,13 +6,13 @@ use table::Table;
 
 // A row of sixteen for each, and no array of tasks: `Findings`, which reports show, takes the rows as they are.
 #[derive(Drop)]
-pub struct Measures {
-    pub m: u8,
-    pub n: u8,
-    pub deadlines: [u32; 16],
-    pub periods: [u32; 16],
-    pub vols: [u64; 16],
-    pub lens: [u64; 16],
+pub(crate) struct Measures {
+    pub(crate) m: u8,
+    pub(crate) n: u8,
+    pub(crate) deadlines: [u32; 16],
+    pub(crate) periods: [u32; 16],
+    pub(crate) vols: [u64; 16],
+    pub(crate) lens: [u64; 16],
     ghost in_range: { InRange n deadlines periods vols },
 }
 
@@ -24,7 +24,7 @@ impl Measures {
     ghost use Rattle.verdict.specs.Measured.{Holds, due_in, margin_in, decided};
 
     // Those of a good table.
-    pub fn of(t: &Table) -> Self
+    pub(crate) fn of(t: &Table) -> Self
         requires { GoodTable t.now }
         ensures { Holds t.now result }
     {
@@ -51,7 +51,7 @@ impl Measures {
     }
 
     // What all tasks owe within task k's deadline.
-    pub fn due(&self, k: usize) -> u64
+    pub(crate) fn due(&self, k: usize) -> u64
         requires { k < self.now.n }
         ensures { result ≡ due_in self.now k }
     {
@@ -64,7 +64,7 @@ impl Measures {
     }
 
     // The margin of task k.
-    pub fn margin(&self, k: usize) -> i64
+    pub(crate) fn margin(&self, k: usize) -> i64
         requires { k < self.now.n }
         ensures { result ≡ margin_in self.now k }
     {
@@ -72,14 +72,14 @@ impl Measures {
     }
 
     // What is due for each task of the table.
-    pub fn dues(&self) -> [u64; 16]
+    pub(crate) fn dues(&self) -> [u64; 16]
         ensures { (t : Table) → GoodTable t → Holds t self.now → result ≡ up_to t.n (due t) }
     {
         walking::figures_up_to(self.n, |k| self.due(k))
     }
 
     // The verdict on the table, before a chain is looked for.
-    pub fn judged(&self) -> Decided
+    pub(crate) fn judged(&self) -> Decided
         ensures { (t : Table) → GoodTable t → Holds t self.now → result ≡ decided (verdict_on t) }
     {
         walking::judge(self.n, 20, |k| self.margin(k))

@@ -1,14 +1,13 @@
 // The search that a verdict makes over its margins, whichever margins they are.
-ghost use Rattle.std.specs.Prelude.{◌≡◌, ℕ, ◌<◌, ℤ};
+ghost use Rattle.std.specs.Prelude.{◌≡◌, ℕ, ◌<◌, min, ℤ};
 ghost use Rattle.verdict.specs.Verdicts.{up_to};
 ghost use Rattle.verdict.specs.Judging.{judged_by};
 
 use crate::Decided;
 
 // The first negative margin of the tasks in turn, which has the number that is given; or, where none is negative, the first that is the
-// smallest, with number 0.
+// smallest, with number 0. Where there is no task: number 0 of task 0, with the largest margin that there is.
 pub fn judge<F: Fn(usize) -> i64>(n: u8, number: u8, margin: F) -> Decided
-    requires some { 0 < n }
     requires callable { (k : ℕ) → k < n → F.pre margin k }
     ensures { (z : ℕ → ℤ) → ((k : ℕ) (r : ℤ) → k < n → F.post margin k r → r ≡ z k) → result ≡ judged_by n number z }
 {
@@ -35,14 +34,13 @@ pub fn judge<F: Fn(usize) -> i64>(n: u8, number: u8, margin: F) -> Decided
     }
 }
 
-// A row of sixteen: the figure of each of n tasks, and zeros.
+// A row of sixteen: the figure of each of n tasks, as many as it has room for, and zeros.
 pub fn figures_up_to<F: Fn(usize) -> u64>(n: u8, figure: F) -> [u64; 16]
-    requires few { n < 17 }
-    requires callable { (k : ℕ) → k < n → F.pre figure k }
-    ensures { (f : ℕ → ℕ) → ((k r : ℕ) → k < n → F.post figure k r → r ≡ f k) → result ≡ up_to n f }
+    requires callable { (k : ℕ) → k < min n 16 → F.pre figure k }
+    ensures { (f : ℕ → ℕ) → ((k r : ℕ) → k < min n 16 → F.post figure k r → r ≡ f k) → result ≡ up_to n f }
 {
     let mut row = [0u64; 16];
-    for k in 0..usize::from(n) {
+    for k in 0..usize::from(n.min(16)) {
         row[k] = figure(k);
     }
     row

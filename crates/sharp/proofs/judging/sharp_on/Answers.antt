@@ -1,12 +1,6 @@
 use mathlib.Core.Path.{refl, ◌∙◌}
-use native.Mathlib.Omega.{arith}
-use Rattle.sharp.proofs.Judged.{task_there, with_chain_lem}
+use Rattle.sharp.proofs.Judged.{with_chain_lem}
 use Rattle.sharp.proofs.judging.sharp_on.Goals as goal
-
-pub chained-requires : goal.chained-requires
-chained-requires c =
-    let d = c.judged in
-    omega (arith, task_there c.args.t.now c.requires d.result (d.ensures c.args.t.now c.requires c.of-x.ensures), c.requires.n_high)
 
 pub returns : goal.returns
 returns c =

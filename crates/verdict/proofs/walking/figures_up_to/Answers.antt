@@ -1,5 +1,5 @@
-use Rattle.std.proofs.Common.{◌≡◌, arith, refl}
-use Rattle.verdict.proofs.Figured.{filled_none, filled_next, filled_up_to}
+use Rattle.std.proofs.Common.{◌≡◌, min, arith, refl}
+use Rattle.verdict.proofs.Figured.{filled_none, filled_next, filled_room}
 use Rattle.verdict.proofs.walking.figures_up_to.Goals as goal
 
 pub loop-k-init : goal.loop-k-init
@@ -8,7 +8,7 @@ loop-k-init g c = λ f h. filled_none refl
 pub loop-k-preserved : goal.loop-k-preserved
 loop-k-preserved g c = λ f h.
     let r = c.figure in
-    filled_next _ (omega (arith, c.requires.few)) (h c.loop-k.k r.result (omega arith) r.ensures) (c.loop-k.invariant f h)
+    filled_next _ (omega arith) (h c.loop-k.k r.result (omega arith) r.ensures) (c.loop-k.invariant f h)
 
 pub returns : goal.returns
-returns g c = λ f h. let e : c.loop-k.k ≡ c.args.n = omega arith in filled_up_to (rw e at (c.loop-k.invariant f h))
+returns g c = λ f h. let e : c.loop-k.k ≡ min c.args.n 16 = omega arith in filled_room c.args.n (rw e at (c.loop-k.invariant f h))

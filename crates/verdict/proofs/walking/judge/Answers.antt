@@ -34,4 +34,4 @@ loop-k-preserved g c = λ z h.
 pub returns : goal.returns
 returns g c = λ z h.
     let e : c.loop-k.k ≡ c.args.n = omega arith in
-    all_passed z _ c.args.n c.args.number c.requires.some _ _ (rw e at (c.loop-k.invariant z h))
+    all_passed z c.args.n c.args.number _ _ (rw e at (c.loop-k.invariant z h))

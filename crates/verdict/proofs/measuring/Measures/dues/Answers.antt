@@ -4,9 +4,6 @@ use Rattle.verdict.specs.Measured.{due_in}
 use Rattle.verdict.proofs.Figured.{held_due}
 use Rattle.verdict.proofs.measuring.Measures.dues.Goals as goal
 
-pub figures_up_to-requires-clause-few : goal.figures_up_to-requires-clause-few
-figures_up_to-requires-clause-few c = omega (arith, c.args.self.now.in_range.1)
-
 pub returns : goal.returns
 returns c = λ t g h.
     let x = c.args.self.now in

@@ -6,9 +6,6 @@ use Rattle.verdict.proofs.Figured.{held_margin}
 use Rattle.verdict.proofs.Judged.{decided_by}
 use Rattle.verdict.proofs.measuring.Measures.judged.Goals as goal
 
-pub judge-requires-clause-some : goal.judge-requires-clause-some
-judge-requires-clause-some c = omega (arith, c.args.self.now.in_range.0)
-
 pub returns : goal.returns
 returns c = λ t g h.
     let x = c.args.self.now in
@@ -17,4 +14,4 @@ returns c = λ t g h.
     let e : r ≡ margin_in x k = search rules in
     e ∙ held_margin t g k (omega (arith, h.n_is)) x h)
     ∙ ap (λ (n : ℕ). judged_by n 20 (margin t)) h.n_is
-    ∙ decided_by t
+    ∙ decided_by t g
