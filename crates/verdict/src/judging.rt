@@ -14,12 +14,11 @@ use table::{Outcome, Table};
 pub fn with_chain(d: Decided, succ: [u16; 16], own: [u32; 16]) -> Verdict
     ensures { result ≡ with_chain d succ own }
 {
-    let c = chains::longest_chain(succ, own);
     let ChainFound {
         count,
         vertices: chain,
         ..
-    } = c;
+    } = chains::longest_chain(succ, own);
     Verdict {
         number: d.number,
         place: 0,
