@@ -15,7 +15,7 @@ use crate::{Progress, Ruling, lists};
 use machine::{Offer, Phase, State};
 use table::{Outcome, Table};
 
-// Whether a machine is stopped, as a miss leaves it.
+// Whether a machine is stopped, as a miss leaves it. No method of `Phase`: no other crate asks for a bool, the panel's face wants a byte.
 fn is_stopped(phase: Phase) -> bool
     ensures { result ≡ is_stopped phase }
 {
