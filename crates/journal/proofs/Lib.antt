@@ -24,6 +24,7 @@ pub mod Computed
 -- The tests of a row in code.
 pub mod RowTests
 pub mod Counted
+pub mod Triples
 pub mod SetTests
 pub mod RowFaults
 pub mod Entries

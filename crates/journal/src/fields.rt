@@ -100,12 +100,14 @@ impl<'a> Row<'a> {
         (64 * self.task(j) + 16 * self.age(j) + self.vertex(j)) as u16
     }
 
-    // Triple j as one number, by which triples ascend.
-    fn triple(&self, j: usize) -> usize
+    // Triple j, by which triples ascend.
+    fn triple(&self, j: usize) -> (usize, usize, usize)
         requires { j < row_count self.now.bytes.now self.now.at }
-        ensures { result ≡ row_triple self.now.bytes.now self.now.at j }
+        ensures task { (result.0 ≡ row_task self.now.bytes.now self.now.at j) × (result.0 < 256) }
+        ensures age { (result.1 ≡ row_age self.now.bytes.now self.now.at j) × (result.1 < 256) }
+        ensures vertex { (result.2 ≡ row_vertex self.now.bytes.now self.now.at j) × (result.2 < 256) }
     {
-        65536 * self.task(j) + 256 * self.age(j) + self.vertex(j)
+        (self.task(j), self.age(j), self.vertex(j))
     }
 
     // Whether the triples ascend strictly.
