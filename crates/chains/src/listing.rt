@@ -40,6 +40,7 @@ fn sums_from(succ: &[u16; 16], times: &[u32; 16]) -> [u64; 16]
 {
     let mut sums = [0; 16];
     let mut left = u16::MAX;
+    // The next vertex depends on the one before.
     while let Some(u) = free_of(succ, left) {
         sums[u] = largest_of(&sums, succ[u]) + u64::from(times[u]);
         left &= !(1 << u);
@@ -70,6 +71,7 @@ fn first_chain(succ: &[u16; 16], times: &[u32; 16]) -> ChainFound
     let mut count = 0;
     let mut set = u16::MAX;
     let mut left = sum;
+    // The next vertex depends on the one before.
     while let Some(u) = first_with(&sums, set, left) {
         vertices[count] = u as u8;
         count += 1;

@@ -17,12 +17,14 @@ use lib.Dec.{ltb, leb, eqb}
 use borrow.Author.Tests.{eqb-true, lt-leb, lt-ltb, le-ltb, eq-eqb, ne_eqb}
 use Rattle.graph.specs.Words.{pick, bit, also_if, join_from, in_order}
 use Rattle.graph.proofs.Facts.{length_row, row_at}
+use Rattle.graph.proofs.Members.{Took}
 use Rattle.table.specs.declared.Outcome.{Outcome}
 use Rattle.table.specs.declared.Outcome.TheVariants.{Ticks, Edge}
 use Rattle.std.specs.Prelude.{Result, Ok, Err}
 use Rattle.table.specs.Reading.{onward, ranged}
 use Rattle.checks.specs.Checking.{row_keys, keys_of, edges_of, edge_tested, edges_tested, costs_tested, used_rows}
 use Rattle.checks.proofs.Keys.{bit_low, bit_up}
+use Rattle.checks.proofs.RowSteps.{row_took, no_bits}
 use Rattle.table.proofs.Edges.{slot}
 use Rattle.table.proofs.FieldLaws.{past, ranged_got}
 
@@ -116,20 +118,26 @@ module _ (v k j u w x p : ℕ) (e : k ≡ suc j) (b : w < 16) where
   unfolding row_keys also_if
   row_clear h = rw (e, ne_eqb (x % 2) 1 h)
 
-  pub walk_bad : x % 2 ≡ 1 → (v ≤ w) ⊎ ((w < v) × (u ≡ w)) → Err (Edge p) ≡ edges_tested v (row_keys k u w x) p
-  unfolding edges_tested
-  walk_bad h q = let e = ⊎_elim (λ l. to_high v u w p b l) (λ l. to_same v u w p b l.1) q in rw (row_set h, e)
-
-  pub walk_pass : x % 2 ≡ 1 → w < v → (u ≡ w → ⊥) → edges_tested v (row_keys j u (w + 1) (x / 2)) (p + 2) ≡ edges_tested v (row_keys k u w x) p
+  walk_pass : x % 2 ≡ 1 → w < v → (u ≡ w → ⊥) → edges_tested v (row_keys j u (w + 1) (x / 2)) (p + 2) ≡ edges_tested v (row_keys k u w x) p
   unfolding edges_tested
   walk_pass h l n = rw (row_set h, to_other v u w p b l n)
 
-  pub walk_skip : (x % 2 ≡ 1 → ⊥) → edges_tested v (row_keys j u (w + 1) (x / 2)) p ≡ edges_tested v (row_keys k u w x) p
+  walk_skip : (x % 2 ≡ 1 → ⊥) → edges_tested v (row_keys j u (w + 1) (x / 2)) p ≡ edges_tested v (row_keys k u w x) p
   walk_skip h = rw (row_clear h)
 
-pub walk_end : (v k u w x p : ℕ) → k ≡ 0 → Ok p ≡ edges_tested v (row_keys k u w x) p
-unfolding edges_tested row_keys
-walk_end v k u w x p e = rw e
+-- ---- the same, member by member
+module _ (v u w x y p : ℕ) (t : Took x w y) where
+  pub member_bad : (v ≤ w) ⊎ ((w < v) × (u ≡ w)) → Err (Edge p) ≡ edges_tested v (row_keys 16 u 0 x) p
+  unfolding edges_tested
+  member_bad q = let e = ⊎_elim (λ l. to_high v u w p t.below l) (λ l. to_same v u w p t.below l.1) q in rw (row_took u x w y t, e)
+
+  pub member_passes : w < v → (u ≡ w → ⊥) → edges_tested v (row_keys 16 u 0 y) (p + 2) ≡ edges_tested v (row_keys 16 u 0 x) p
+  unfolding edges_tested
+  member_passes l n = rw (row_took u x w y t, to_other v u w p t.below l n)
+
+pub member_none : (v u x p : ℕ) → x ≡ 0 → Ok p ≡ edges_tested v (row_keys 16 u 0 x) p
+unfolding edges_tested
+member_none v u x p e = rw (no_bits 16 u 0 x e)
 
 -- ---- a vertex whose bits are all let through
 pub row_passes : (v k u w x p : ℕ) → w + k ≤ 16 → ((j : ℕ) → j < k → bit x j ≡ true → (w + j < v) × (u ≡ w + j → ⊥))

@@ -1,9 +1,10 @@
 // The writer's tests 3 to 7 on the table itself, in file order: specs/Checking.antt. Each answers the refusal, or the place after what
-// it tested, and takes the row of costs, a task's slot in it and the place, as its definition does; the bounds that it asks for are plain numbers'.
+// it tested, and takes the row of costs, a task's slot in it and the place, as its definition does; the bounds that it asks for keep the places from wrapping.
 ghost use Rattle.std.specs.Prelude.{◌≡◌, ◌+◌, ◌*◌, ◌≤◌, ◌<◌, length};
 ghost use Rattle.table.specs.Reading.{ranged};
 ghost use Rattle.checks.specs.Checking.{row_keys, keys_of, edges_of, edges_tested, costs_tested, used_rows, parts_tested, task_tested, tasks_tested, checked};
 
+use graph::set::Members;
 use table::{Outcome, Table, Task};
 
 // How many successor bits the first v vertices have: the whole count, not cut to a byte. (A loop: `sum` would owe that the counts' sum
@@ -54,21 +55,17 @@ fn costs_tested(costs: &[u32; 256], slot: usize, v: usize, at: usize) -> Result<
     Ok(p)
 }
 
-// The edges of vertex u bit by bit: the place of the first that is refused.
+// The edges of vertex u one by one: the place of the first that is refused.
 fn row_walked(bits: u16, u: usize, v: usize, at: usize) -> Result<usize, Outcome>
     requires { at ≤ 1000000 }
     ensures { result ≡ edges_tested v (row_keys 16 u 0 bits) at }
 {
-    let mut x = bits;
     let mut p = at;
-    for w in 0..16 {
-        if x % 2 == 1 {
-            if v <= w || u == w {
-                return Err(Outcome::Edge(p));
-            }
-            p += 2;
+    for w in Members::from(bits) {
+        if v <= w || u == w {
+            return Err(Outcome::Edge(p));
         }
-        x /= 2;
+        p += 2;
     }
     Ok(p)
 }

@@ -18,7 +18,8 @@ fn zero_from(succ: [u16; 16], costs: &[u32; 256], slot: usize, from: usize) -> b
     true
 }
 
-// Whether a task from n on is zero wholly.
+// Whether a task from n on is zero wholly. Field by field: its successors are tested with the costs, and arrays have no comparison that
+// stays as plain.
 fn zero_task(task: Task, costs: &[u32; 256], slot: usize) -> bool
     requires { slot + 16 ≤ 256 }
     ensures { result ≡ unused_in task costs.now slot false }

@@ -56,6 +56,7 @@ impl<'a> Row<'a> {
         self.at + 5 + 3 * self.count()
     }
 
+    // The three bytes of triple j: a method each, as the definitions row_task, row_age and row_vertex are three.
     // The task of triple j.
     pub(crate) fn task(&self, j: usize) -> usize
         requires { j < row_count self.now.bytes.now self.now.at }

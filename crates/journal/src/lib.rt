@@ -21,7 +21,8 @@ pub struct Ruling {
 }
 
 // How far a journal is judged: `rows` rows are, the next one begins at place `next`, and the machine stands at `state`. A number
-// other than 0 says that this next row is refused with it.
+// other than 0 says that this next row is refused with it. The number stands beside: the definitions of `judge_piece` and `rule`, and
+// their theorems, speak of these fields.
 #[derive(Clone, Copy)]
 pub struct Progress {
     pub number: u8,

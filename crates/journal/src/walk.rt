@@ -15,7 +15,7 @@ use crate::{Progress, Ruling, lists};
 use machine::{Offer, Phase, State};
 use table::{Outcome, Table};
 
-// Whether a machine is stopped, as a miss leaves it.
+// Whether a machine is stopped, as a miss leaves it. No method of `Phase`: no other crate asks for a bool, the panel's face wants a byte.
 fn is_stopped(phase: Phase) -> bool
     ensures { result ≡ is_stopped phase }
 {
@@ -170,7 +170,7 @@ fn is_too_wide(t: Table) -> bool
     8 < t.m || 16 < t.n
 }
 
-// Judges a piece of a journal, so that a buffer of some size is enough for any length.
+// Judges a piece of a journal, so that a buffer of some size is enough for any length. 3, as reading refuses such a table.
 pub fn judge_piece(t: Table, piece: &[u8], end: usize, st: State) -> Progress
     ensures { result ≡ judge_piece t piece.now end st }
 {

@@ -5,6 +5,7 @@ pub mod Held
 -- THE CODE: laws that its proofs cite.
 pub mod Parted
 pub mod Lined
+pub mod Named
 pub mod Rulings
 pub mod Steps
 pub mod Unique

@@ -7,7 +7,8 @@ use crate::Line;
 use table::{Outcome, Table};
 use text::Page;
 
-// A table that reading refuses.
+// A table that reading refuses. As `bad_line` of reports, with another word: the two share crates of text and table alone, and neither of
+// those knows the other.
 fn refuse_line(page: &mut Line, o: Outcome)
     ensures { Adds page.old page.new (refuse_line o) }
 {

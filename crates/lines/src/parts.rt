@@ -3,9 +3,10 @@ ghost use Rattle.std.specs.Prelude.{◌≡◌, [], ◌<◌, eqb};
 ghost use Rattle.graph.specs.Words.{pick, in_order};
 ghost use Rattle.text.specs.Text.{text};
 ghost use Rattle.text.specs.Page.{Adds};
-ghost use Rattle.lines.specs.Lines.{or_dash, number_in, numbers_in, vertex_text, vertices_text, slot_in, work_in};
+ghost use Rattle.lines.specs.Lines.{or_dash, numbers_in, vertex_text, vertices_text, slot_in, work_in};
 
 use crate::Line;
+use graph::set::Members;
 use machine::Triple;
 
 // The jobs that are live: the slots that have one, and the row of work left, a number a slot.
@@ -24,23 +25,13 @@ fn dash(page: &mut Line, from: usize)
     }
 }
 
-// Task i, if it is in the set.
-fn number_in(page: &mut Line, set: u16, i: u8)
-    requires { i < 16 }
-    ensures { Adds page.old page.new (number_in set i) }
-{
-    if (set >> i) % 2 == 1 {
-        page.labelled(b" ", u64::from(i));
-    }
-}
-
 // The tasks of a set, ascending, or a dash.
 pub(crate) fn numbers_in(page: &mut Line, set: u16)
     ensures { Adds page.old page.new (numbers_in set) }
 {
     let from = page.len;
-    for i in 0..16 {
-        number_in(page, set, i);
+    for i in Members::from(set) {
+        page.labelled(b" ", i as u64);
     }
     dash(page, from);
 }

@@ -10,7 +10,7 @@ use crate::Line;
 use journal::Ruling;
 use text::Page;
 
-// Whether the last row missed.
+// Whether the last row missed: a value that is shown, no switch on a step.
 fn missed(page: &mut Line, last: bool)
     ensures { Adds page.old page.new (pick last (text ", the last missed") []) }
 {

@@ -1,6 +1,6 @@
 -- Sets of slots: one that a loop over the members of another gathers, from the lowest member up, where a test passes; and the set of the tasks that have
 -- a slot in a set, the bits of its four parts of sixteen or-ed together. `rest` are the members still to come.
-use Rattle.std.proofs.Common.{◌≡◌, ℕ, ◌+◌, ◌-◌, ◌*◌, ◌/◌, ◌%◌, ◌^◌, ◌<◌, Bool, true, false, not, ◌&&◌, ◌||◌, eqb, sym, refl, ap, ◌∙◌, ap₂, one-mul, arith, shr-shr, eq-eqb, ne_eqb}
+use Rattle.std.proofs.Common.{◌≡◌, ℕ, ◌+◌, ◌-◌, ◌*◌, ◌/◌, ◌%◌, ◌^◌, ◌<◌, Bool, true, false, not, ◌&&◌, ◌||◌, eqb, sym, refl, ap, ◌∙◌, ap₂, one-mul, arith, shr-shr, eq-eqb, ne_eqb, lt-ltb}
 use native.Mathlib.Decide.{ℕ_discrete}
 use lib.Pow.{pow-lt, field, mod-mod-pow}
 use lib.Bits.{bit_and, bit_or, or_lt}
@@ -8,8 +8,9 @@ use lib.Count.{count_trailing_zeros}
 use Rattle.graph.specs.Words.{bit, all, set_of}
 use Rattle.graph.proofs.Facts.{all_same}
 use Rattle.graph.proofs.Bits.{bit_or_lem, bit_zero, bit_one}
-use Rattle.graph.proofs.Sets.{set_is, bit_set}
+use Rattle.graph.proofs.Sets.{set_is, bit_set, bit_first}
 use Rattle.machine.specs.Steps.{any_place}
+use Rattle.machine.proofs.Filling.{set_ext}
 use Rattle.machine.proofs.Sweeping.{first_small, first_in, falls, others_same, still_in}
 
 pub place_ext : (f g : ℕ → Bool) → ((p : ℕ) → p < 4 → f p ≡ g p) → any_place f ≡ any_place g
@@ -157,3 +158,7 @@ pub tasks_with : (set tasks : ℕ) (test : ℕ → Bool) → set ≡ set_of 64 t
 tasks_with set tasks test e f i b =
     ap (λ (n : ℕ). bit n i) f ∙ bit_set 16 _ i b
     ∙ place_ext _ _ (λ p c. ap (λ (n : ℕ). bit n (16 * p + i)) e ∙ bit_set 64 test (16 * p + i) (omega arith))
+
+-- ---- where every slot is asked
+pub of_all : (p : ℕ → Bool) (set : ℕ) → set ≡ set_of 64 (λ s. bit 18446744073709551615 s && p s) → set ≡ set_of 64 p
+of_all p set e = e ∙ set_ext 64 _ p (λ k b. ap (λ (c : Bool). c && p k) (bit_first 64 k ∙ lt-ltb k 64 b))

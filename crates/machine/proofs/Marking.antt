@@ -1,33 +1,16 @@
--- A slot as the code marks it in a set, `1 << s`; a set that is marked slot by slot; the source of a slot as an option.
-use Rattle.std.proofs.Common.{◌≡◌, ℕ, ◌+◌, ◌*◌, ◌%◌, ◌^◌, ◌<◌, ◌≤◌, Bool, true, false, ltb, sym, refl, ap, ◌∙◌, one-mul, mod-eq_of_lt, arith, le-ltb, lt-ltb, pow_mono}
-use native.Mathlib.Decide.{ℕ_discrete, dec_lt}
+-- A slot as the code marks it in a set, `1 << s`; the source of a slot as an option.
+use Rattle.std.proofs.Common.{◌≡◌, ℕ, ◌*◌, ◌%◌, ◌^◌, ◌<◌, ◌≤◌, Bool, true, false, ltb, sym, refl, ap, ◌∙◌, one-mul, mod-eq_of_lt, arith, le-ltb, lt-ltb}
+use native.Mathlib.Decide.{dec_lt}
 use lib.Pow.{pow-lt}
-use lib.Bits.{bit_or, or_lt}
 use Rattle.std.specs.declared.option.Option.{Option}
 use Rattle.std.specs.declared.option.Option.TheVariants.{Some, None}
 use Rattle.std.proofs.lemmas.Option.{none-some, same_Some}
-use Rattle.graph.specs.Words.{pick, bit, set_of}
-use Rattle.graph.proofs.Sets.{set_small, set_is, bit_set}
+use Rattle.graph.specs.Words.{pick}
 use Rattle.machine.specs.Rows.{source_by}
-use Rattle.machine.proofs.Gathering.{with_one, others_as_before}
 
 -- ---- one slot
 pub one_slot : (s : ℕ) → s < 64 → 1 * 2 ^ s % 18446744073709551616 ≡ 2 ^ s
 one_slot s b = ap (λ (n : ℕ). n % 18446744073709551616) (one-mul (2 ^ s)) ∙ mod-eq_of_lt (pow-lt b)
-
--- ---- those below s, and s
-pub set_mark : (p : ℕ → Bool) (s : ℕ) → p s ≡ true → bit_or (set_of s p) (2 ^ s) ≡ set_of (s + 1) p
-set_mark p s e = set_is (s + 1) (bit_or (set_of s p) (2 ^ s)) p
-    (or_lt (s + 1) (set_of s p) (2 ^ s) (omega (arith, set_small p s, room)) (omega (arith, room, two))) (λ u b. elim (ℕ_discrete u s) [
-      | yes q ↦ ap (bit (bit_or (set_of s p) (2 ^ s))) q ∙ with_one (set_of s p) s ∙ sym (ap p q ∙ e)
-      | no q ↦ others_as_before (set_of s p) s u q ∙ bit_set s p u (omega arith)
-    ])
-  where
-    room : 2 ^ s ≤ 2 ^ (s + 1)
-    room = pow_mono (omega arith)
-
-    two : 2 ^ s < 2 ^ (s + 1)
-    two = pow-lt (omega arith)
 
 -- ---- the source of a slot
 module _ (going s : ℕ) where

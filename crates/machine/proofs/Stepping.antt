@@ -10,9 +10,9 @@ use lib.Bits.{bit_or}
 use Rattle.std.proofs.Common.{◌^◌}
 
 module _ {old new : Members} {s : ℕ} (t : TakesLowest old (Some s) new) where
-  pub swept_next {ℓ} : {X : Type ℓ} (d : X) (f : ℕ → X) (before : List X) (all : ℕ) (now : List X) → Swept d f before all old.rest now → (x : X) → x ≡ f s
-      → Swept d f before all new.rest (set now s x)
-  swept_next d f before all now r x e = subst⁻¹ (λ (n : ℕ). Swept d f before all n (set now s x)) t.3 (swept_at d f before all old.rest now r t.0 s t.1 x e)
+  pub swept_next {ℓ} : {X : Type ℓ} (m : ℕ) (d : X) (f : ℕ → X) (before : List X) (all : ℕ) (now : List X) → Swept m d f before all old.rest now → (x : X) → x ≡ f s
+      → Swept m d f before all new.rest (set now s x)
+  swept_next m d f before all now r x e = subst⁻¹ (λ (n : ℕ). Swept m d f before all n (set now s x)) t.3 (swept_at m d f before all old.rest now r t.0 s t.1 x e)
 
   module _ (test : ℕ → Bool) (from now : ℕ) (r : Gathered test from old.rest now) where
     pub gathered_next : test s ≡ true → Gathered test from new.rest (bit_or now (2 ^ s))

@@ -1,10 +1,12 @@
 // What a tick answers: a reply, the vertices that ran, and the state that comes with them.
 ghost use Rattle.std.specs.Prelude.{◌≡◌, ◌<◌};
+ghost use Rattle.table.specs.Numbers.{number, place};
 ghost use Rattle.machine.specs.Steps.{listed};
 ghost use Rattle.machine.specs.Rows.{reply_of};
 ghost use Rattle.machine.specs.Ticking.{nobody, triple_of, run_list, refuse};
 
 use crate::{Answer, Chosen, Reply, State, Ticked, Triple};
+use table::Outcome;
 
 impl Triple {
     // An unused place of a run list.
@@ -42,6 +44,17 @@ impl Reply {
             number,
             place: 0,
             task,
+        }
+    }
+
+    // The reply where reading stopped: its number and place, no task.
+    pub(crate) fn unread(o: Outcome) -> Reply
+        ensures { result ≡ record { number = number o; place = place o; task = 255 } }
+    {
+        Reply {
+            number: o.number(),
+            place: o.place(),
+            task: 255,
         }
     }
 }

@@ -18,12 +18,10 @@ use table::Table;
 pub(crate) fn sets_of(t: &Table, live: u64, remaining: &[u32; 1024]) -> [u16; 64]
     ensures { result ≡ row 64 (λ s. pick (bit live s) (set_of 16 (is_ready (task t.now (s % 16)).succ (task t.now (s % 16)).v remaining.now s)) 0) }
 {
-    let mut sets = [0u16; 64];
-    for s in Members::of(live) {
+    held::at_slots(0, live, |s| {
         let a = t.tasks[s % 16];
-        sets[s] = slots::ready(a.succ, usize::from(a.v), remaining, s);
-    }
-    sets
+        slots::ready(a.succ, usize::from(a.v), remaining, s)
+    })
 }
 
 // The slots of a set that have a vertex in their own.

@@ -31,7 +31,7 @@ pub(crate) fn first_late(live: u64, deadlines: &[u32; 64], clock: u32) -> Option
     lowest_in(tasks_in(late))
 }
 
-// The lowest member.
+// The lowest member. `Members::from(set).next()` would count in usize and need a cast within the option.
 fn lowest_in(set: u16) -> Option<u8>
     ensures { result ≡ lowest_or 16 (bit set) Some None }
 {
@@ -70,7 +70,7 @@ fn source(going: u64, s: usize) -> Option<usize>
 
 // What remains of a slot, taken over from another.
 fn move_rest(from: usize, to: usize, remaining: &mut [u32; 1024])
-    requires { (from < 64) × (to < 64) × (length remaining.old ≡ 1024) }
+    requires { (from < 64) × (to < 64) }
     ensures { remaining.new ≡ row 1024 (λ k. pick (k / 16 == to) (slice_index remaining.old (16 * from + k % 16)) (slice_index remaining.old k)) }
 {
     remaining.copy_within(16 * from..16 * from + 16, 16 * to);
@@ -78,7 +78,7 @@ fn move_rest(from: usize, to: usize, remaining: &mut [u32; 1024])
 
 // Nothing remains of a slot.
 fn clear_rest(s: usize, remaining: &mut [u32; 1024])
-    requires { (s < 64) × (length remaining.old ≡ 1024) }
+    requires { s < 64 }
     ensures { remaining.new ≡ row 1024 (λ k. pick (k / 16 == s) 0 (slice_index remaining.old k)) }
 {
     remaining[16 * s..16 * s + 16].fill(0);
@@ -93,7 +93,6 @@ pub(crate) fn close(
     remaining: &mut [u32; 1024],
     work: &mut [u64; 64],
 ) -> u64
-    requires { (length deadlines.old ≡ 64) × (length remaining.old ≡ 1024) × (length work.old ≡ 64) }
     ensures { (result ≡ set_of 64 (λ s. closed_by over going s (bit going) false)) × (deadlines.new ≡ row 64 (λ s. closed_by over going s (λ q. slice_index deadlines.old q) 0)) × (remaining.new ≡ row 1024 (λ k. closed_by over going (k / 16) (λ q. slice_index remaining.old (16 * q + k % 16)) 0)) × (work.new ≡ row 64 (λ s. closed_by over going s (λ q. slice_index work.old q) 0)) }
 {
     let slots = slots_of(over);

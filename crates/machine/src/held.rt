@@ -34,13 +34,7 @@ impl Job {
 pub(crate) fn live_set(states: [TaskState; 16]) -> u64
     ensures { result ≡ set_of 64 (λ s. is_live (job_in states s)) }
 {
-    let mut set = 0;
-    for s in 0..64 {
-        if states[s % 16].jobs[s / 16].is_live() {
-            set |= 1u64 << s;
-        }
-    }
-    set
+    passing(u64::MAX, |s| states[s % 16].jobs[s / 16].is_live())
 }
 
 // The slots of a set that pass a test.
@@ -57,15 +51,23 @@ pub(crate) fn passing<F: Fn(usize) -> bool>(set: u64, test: F) -> u64
     passing
 }
 
+// A value at each slot of a set; nothing elsewhere.
+pub(crate) fn at_slots<T: Copy, F: Fn(usize) -> T>(nothing: T, set: u64, value: F) -> [T; 64]
+    requires { (s : ℕ) → s < 64 → F.pre value s }
+    ensures { (f : ℕ → T) → ((s : ℕ) (r : T) → s < 64 → F.post value s r → r ≡ f s) → result ≡ row 64 (λ s. pick (bit set s) (f s) nothing) }
+{
+    let mut row = [nothing; 64];
+    for s in Members::of(set) {
+        row[s] = value(s);
+    }
+    row
+}
+
 // The deadlines of the slots in a set; 0 elsewhere.
 pub(crate) fn deadlines_of(states: [TaskState; 16], set: u64) -> [u32; 64]
     ensures { result ≡ row 64 (λ s. pick (bit set s) (deadline_of (job_in states s)) 0) }
 {
-    let mut deadlines = [0u32; 64];
-    for s in Members::of(set) {
-        deadlines[s] = states[s % 16].jobs[s / 16].deadline();
-    }
-    deadlines
+    at_slots(0, set, |s| states[s % 16].jobs[s / 16].deadline())
 }
 
 // Each task's wait.
@@ -79,14 +81,10 @@ pub(crate) fn waits_of(states: [TaskState; 16]) -> [u32; 16]
 pub(crate) fn left_of(deadlines: &[u32; 64], clock: u32, set: u64) -> [u32; 64]
     ensures { result ≡ row 64 (λ s. pick (bit set s) (ticks_left (slice_index deadlines.now s) clock) 0) }
 {
-    let mut left = [0u32; 64];
-    for s in Members::of(set) {
-        left[s] = deadlines[s].wrapping_sub(clock);
-    }
-    left
+    at_slots(0, set, |s| deadlines[s].wrapping_sub(clock))
 }
 
-// A place, put together.
+// A place, put together from what is stored: the flag is a value, no switch on a step.
 fn place_of(live: bool, deadline: u32) -> Job
     ensures { result ≡ pick live (Live deadline) Nothing }
 {

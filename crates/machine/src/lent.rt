@@ -6,7 +6,7 @@ ghost use Rattle.machine.specs.declared.State.{State};
 ghost use Rattle.machine.specs.Steps.{name_at, listed, run_of};
 ghost use Rattle.machine.specs.Rows.{place_in, used_by, is_new_by, begun_deadlines, begun_waits, begun_rest, begun_work};
 
-use crate::Chosen;
+use crate::{Chosen, held};
 use graph::set::Members;
 use table::Table;
 
@@ -50,13 +50,7 @@ pub(crate) fn fresh(live: u64, named: u16) -> u64
     if named == 0 {
         return 0;
     }
-    let mut set = 0;
-    for s in 0..64usize {
-        if is_new(live, named, s) {
-            set |= 1u64 << s;
-        }
-    }
-    set
+    held::passing(u64::MAX, |s| is_new(live, named, s))
 }
 
 // Step 1 of the deadlines: the clock plus D, wrapped.
@@ -72,10 +66,8 @@ pub(crate) fn begin(t: Table, clock: u32, fresh: u64, deadlines: &mut [u32; 64])
 pub(crate) fn wait_anew(t: Table, named: u16, waits: &mut [u32; 16])
     ensures { waits.new ≡ begun_waits t named waits.old }
 {
-    for i in 0..16usize {
-        if (named >> i) % 2 == 1 {
-            waits[i] = t.tasks[i].t;
-        }
+    for i in Members::from(named) {
+        waits[i] = t.tasks[i].t;
     }
 }
 
@@ -106,7 +98,7 @@ pub(crate) fn put_work(remaining: &[u32; 1024], fresh: u64, work: &mut [u64; 64]
     }
 }
 
-// Where in the four rows the vertex with a number in a choice lies.
+// Where in the four rows the vertex with a number in a choice lies. The definition of its name fixes the number.
 fn place_in(key: usize) -> usize
     requires { key < 1024 }
     ensures { (result ≡ place_in key) × (result < 1024) }

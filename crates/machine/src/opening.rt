@@ -27,11 +27,7 @@ fn unopened(o: Outcome) -> Opened
     ensures { result ≡ unopened o }
 {
     Opened {
-        reply: Reply {
-            number: o.number(),
-            place: o.place(),
-            task: 255,
-        },
+        reply: Reply::unread(o),
         state: zeros(0, Phase::Stopped(255)),
     }
 }
@@ -46,11 +42,7 @@ pub fn open(bytes: &[u8], clock: u32) -> Opened
         return unopened(o);
     };
     Opened {
-        reply: Reply {
-            number: 0,
-            place: 0,
-            task: 255,
-        },
+        reply: Reply::of(0, 255),
         state: zeros(clock, Phase::Running),
     }
 }

@@ -1,5 +1,5 @@
 // A state taken apart for a tick: its rows, changed where they lie, step by step. Slot 16 * p + i is age place p of task i. What remains of the
-// vertices, four thousand bytes, stays beside them: a struct of that size is cleared before it is filled, a tenth more instructions a tick.
+// vertices, four thousand bytes, stays beside them: a struct of that size is cleared before it is filled, 19 instructions in a hundred more.
 ghost use Rattle.std.specs.Prelude.{◌≡◌, ◌+◌, ◌*◌, ◌⊎◌, ◌&&◌, ◌==◌, slice_index};
 ghost use Rattle.graph.specs.Words.{bit, Distinct, set_of};
 ghost use Rattle.machine.specs.Steps.{any_place, listed};

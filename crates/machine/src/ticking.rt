@@ -1,4 +1,5 @@
-// The tick: its steps one after the other, and its refusals. The definitions are in specs/Ticking.antt.
+// The tick: its steps one after the other, and its refusals. The definitions are in specs/Ticking.antt. A table, a state and a release set stay
+// apart: the three come from three hands.
 ghost use Rattle.std.specs.Prelude.{◌≡◌, ◌<◌, ◌≤◌, ◌&&◌, nat_le, nat_lt};
 ghost use Rattle.graph.specs.Words.{bit, lowest_or};
 ghost use Rattle.machine.specs.States.{wait};

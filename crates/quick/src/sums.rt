@@ -9,7 +9,7 @@ use table::Table;
 
 // How often a task asks, and for how much.
 #[derive(Clone, Copy)]
-pub struct Load {
+pub(crate) struct Load {
     pub period: u32,
     pub vol: u64,
 }

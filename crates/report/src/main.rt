@@ -4,7 +4,8 @@
 use std::io;
 use streams::FILE_ROOM;
 
-// Of a longer file the first 5,061 bytes have the same report (`report_prefix`, the crate reports).
+// Of a longer file the first 5,061 bytes have the same report (`report_prefix`, the crate reports). As sharp_report, about another report:
+// one function for both would be a crate more.
 fn main(rt: HostRuntime) -> io::Result<()> {
     let mut file = [0; FILE_ROOM];
     let n = streams::read_full(&mut rt.stdin(), &mut file)?;

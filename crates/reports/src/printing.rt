@@ -1,5 +1,6 @@
 // The lines of a report onto a page, from what was found of a file: document 01, "Examples by hand"; document 02, M-102, for the chain.
 // The page's size is a parameter, since a caller's own buffer is filled from a small page: fixed memory.
+// Findings is a public type of verdict, so Printable stays a clause: an invariant would ask more of its callers.
 ghost use Rattle.std.specs.Prelude.{◌≡◌, ◌++◌, ◌≤◌, eqb};
 ghost use Rattle.graph.specs.Words.{pick, in_order};
 ghost use Rattle.text.specs.Text.{text, newline, decimal, signed};
@@ -93,7 +94,8 @@ fn last_line<const N: usize>(page: &mut Page<N>, v: Verdict)
     chain(page, v.count, v.chain);
 }
 
-// The one line of a file that reading refuses.
+// The one line of a file that reading refuses. As `refuse_line` of lines, with another word: the two share crates of text and table alone,
+// and neither of those knows the other.
 fn bad_line<const N: usize>(page: &mut Page<N>, o: Outcome)
     ensures { Adds page.old page.new (bad_line o) }
 {

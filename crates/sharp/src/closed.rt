@@ -1,4 +1,5 @@
 // The sharp due work in closed form: no walk over the jobs of a task. Document 02, M-107.
+// The bounds on d and t that its functions ask for keep sums and products from wrapping.
 ghost use Rattle.std.specs.Prelude.{◌≡◌, ℕ, ◌+◌, ◌*◌, ◌-◌, ◌≤◌, ◌<◌, get_or};
 ghost use Rattle.sharp.specs.Closed.{ramp, part, asked_from};
 

@@ -7,7 +7,8 @@ use crate::gathering::Gathering;
 use table::{Outcome, Table};
 use verdict::Findings;
 
-// Those of a good table.
+// Those of a good table. There are two of these, one here and one in verdict: the rows differ (tails, costs by vertex), and what both share are
+// `judge`, `figures_up_to` and `margin_from` of verdict; a trait over both would have these as its only bodies.
 fn sharp_findings_on(t: &Table) -> Findings
     requires { GoodTable t.now }
     ensures { result ≡ sharp_findings_on t.now }
@@ -16,13 +17,18 @@ fn sharp_findings_on(t: &Table) -> Findings
     let x = Gathering::of(t, &mut tails);
     let dues = x.dues();
     let verdict = verdict::chained(t, x.judged());
-    let deadlines = x.deadlines;
-    let vols = x.vols;
-    let lens = x.lens;
+    let Gathering {
+        m,
+        n,
+        deadlines,
+        vols,
+        lens,
+        ..
+    } = x;
     Findings {
         outcome: Outcome::Read,
-        m: x.m,
-        n: x.n,
+        m,
+        n,
         deadlines,
         vols,
         lens,

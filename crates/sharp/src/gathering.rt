@@ -6,7 +6,8 @@ use table::Table;
 use verdict::Decided;
 
 // A row of sixteen for each, beside the table's costs and its tails, and no array of tasks: `Findings`, which reports show, takes the rows as
-// they are.
+// they are. `margin`, `dues` and `judged` are those of verdict's `Measures` over other rows: what both share are `judge`, `figures_up_to` and
+// `margin_from` of verdict; a trait over both would have these as its only bodies.
 #[derive(Drop)]
 pub(crate) struct Gathering<'a> {
     pub(crate) m: u8,

@@ -7,7 +7,7 @@ use crate::gathering::Gathering;
 use table::{Outcome, Table};
 use verdict::Verdict;
 
-// The sharp verdict on a good table, one that was read.
+// The sharp verdict on a good table. `GoodTable` is what reading has shown, as in verdict.
 fn sharp_on(t: &Table) -> Verdict
     requires { GoodTable t.now }
     ensures { result ≡ sharp_on t.now }

@@ -61,7 +61,7 @@ pub fn ready(succ: [u16; 16], v: usize, remaining: &[u32; 1024], s: usize) -> u1
     unfinished & !graph::held_back(succ, v, unfinished)
 }
 
-// A place of zeros: not live, no work stored, and nothing remains.
+// A place of zeros: not live, no work stored, and nothing remains. The flag is a value, as the definition has it.
 pub fn zero_place(live: bool, work: u64, remaining: &[u32; 1024], s: usize) -> bool
     ensures { result ≡ zero_place live work remaining.now s }
 {

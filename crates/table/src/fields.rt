@@ -69,7 +69,7 @@ pub(crate) fn period_at(bytes: &[u8], at: usize, d: u32) -> Result<u32, Outcome>
     Ok(t)
 }
 
-// An edge, as its key 16 * from + to.
+// An edge, as its key 16 * from + to: the definition edge_at has it so, and keys ascend.
 pub(crate) fn edge_at(bytes: &[u8], at: usize, v: u8, low: u32) -> Result<u32, Outcome>
     requires { at ≤ length bytes.now }
     ensures { result ≡ edge_at v low bytes.now at }

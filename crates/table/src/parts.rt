@@ -1,4 +1,4 @@
-// The costs and the edges of a task, field by field, to where they stay.
+// The costs and the edges of a task, field by field, to where they stay. Each takes bytes and a place, as fields.rt.
 ghost use Rattle.std.specs.Prelude.{◌≡◌, ◌+◌, ◌≤◌, ◌<◌, length};
 ghost use Rattle.table.specs.Reading.{costs_at, edges_at};
 ghost use Rattle.table.specs.Parts.{told};

@@ -141,7 +141,8 @@ fn refusal(outcome: Outcome) -> Loaded
     }
 }
 
-// A file: one table, then the end. The table is filled where it stays.
+// A file: one table, then the end. The table is filled where it stays: `table_at` with the end tested; by it a table would be copied once
+// more.
 pub fn read(bytes: &[u8]) -> Loaded
     ensures { result ≡ read bytes.now }
 {

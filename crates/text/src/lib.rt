@@ -1,4 +1,5 @@
 // Text into a lent buffer: bytes, numbers in decimal, numbers with their sign. What falls outside the buffer is cut off.
+// The buffer and the place travel together in public clauses; `Page` has them in one.
 #![tactic(auto)]
 
 mod page;

@@ -6,6 +6,7 @@ ghost use Rattle.text.specs.Page.{blank, Adds};
 use crate::{put_bytes, put_decimal, put_signed};
 
 // The text is at the front of the bytes: as many of them as `len` says. A page that began blank has zeros behind it.
+// Fixed memory: no String.
 #[derive(Clone, Copy)]
 pub struct Page<const N: usize> {
     pub bytes: [u8; N],

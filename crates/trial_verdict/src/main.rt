@@ -56,6 +56,7 @@ fn run_case(
     Ok(true)
 }
 
+// The buffers are this program's own, so each has its `main`.
 fn main(rt: HostRuntime) -> io::Result<()> {
     let mut input = rt.stdin();
     let mut file = CaseFile::new();

@@ -44,7 +44,7 @@ fn answer(rt: &impl Print, input: &[u8]) -> io::Result<()> {
     println!(rt; "{count} {}", sum.finish())
 }
 
-// One run; false where the input ends.
+// One run; false where the input ends. As in trial_read, which says why there are two.
 fn run_case(rt: &impl Print, input: &mut impl Read, buf: &mut [u8]) -> io::Result<bool> {
     let Some(n) = streams::read_sized(input, buf)? else {
         return Ok(false);

@@ -32,12 +32,12 @@ use Rattle.verdict.proofs.finding.no_findings.Kinds as no-findings-kinds
 use Rattle.verdict.proofs.finding.no_findings.Reads as no-findings-reads
 use Rattle.verdict.proofs.figuring.margin_from.Kinds as margin-from-kinds
 use Rattle.verdict.proofs.figuring.margin_from.Reads as margin-from-reads
-use Rattle.verdict.specs.contracts.walking.judge.F-Fn as judge-fn
-use Rattle.verdict.proofs.walking.judge.Kinds as judge-kinds
-use Rattle.verdict.proofs.walking.judge.Reads as judge-reads
-use Rattle.verdict.specs.contracts.walking.figures_up_to.F-Fn as figures-up-to-fn
-use Rattle.verdict.proofs.walking.figures_up_to.Kinds as figures-up-to-kinds
-use Rattle.verdict.proofs.walking.figures_up_to.Reads as figures-up-to-reads
+use Rattle.verdict.specs.contracts.searching.judge.F-Fn as judge-fn
+use Rattle.verdict.proofs.searching.judge.Kinds as judge-kinds
+use Rattle.verdict.proofs.searching.judge.Reads as judge-reads
+use Rattle.verdict.specs.contracts.searching.figures_up_to.F-Fn as figures-up-to-fn
+use Rattle.verdict.proofs.searching.figures_up_to.Kinds as figures-up-to-kinds
+use Rattle.verdict.proofs.searching.figures_up_to.Reads as figures-up-to-reads
 
 pub verdict_of_one : OneResult 1 verdict-of-kinds.ps verdict-of-kinds.r verdict-of-reads.Post
 verdict_of_one κs args x y s t = by_definition

@@ -17,7 +17,8 @@ pub fn own_costs(costs: &[u32; 256], i: usize) -> [u32; 16]
     own
 }
 
-// The sum of sixteen costs.
+// The sum of sixteen costs. A `for`: `own.iter().map(|c| u64::from(*c)).sum()` was tried, and without a `requires` the proof does not have the row's
+// length, with which the sum is bounded.
 pub fn total_of(own: [u32; 16]) -> u64
     ensures { result ≡ sum 16 (λ u. get_or own u 0) }
 {

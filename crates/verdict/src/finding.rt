@@ -15,13 +15,18 @@ fn findings_on(t: &Table) -> Findings
     let x = Measures::of(t);
     let dues = x.dues();
     let verdict = judging::chained(t, x.judged());
-    let deadlines = x.deadlines;
-    let vols = x.vols;
-    let lens = x.lens;
+    let Measures {
+        m,
+        n,
+        deadlines,
+        vols,
+        lens,
+        ..
+    } = x;
     Findings {
         outcome: Outcome::Read,
-        m: x.m,
-        n: x.n,
+        m,
+        n,
         deadlines,
         vols,
         lens,

@@ -7,20 +7,24 @@ ghost use Rattle.verdict.specs.Measured.{own_succ, with_chain};
 
 use crate::measuring::Measures;
 use crate::{Decided, Figures, Verdict, figuring};
+use chains::ChainFound;
 use table::{Outcome, Table};
 
 // A verdict that is decided, with the longest chain of its task, whose successors and costs are given.
 pub fn with_chain(d: Decided, succ: [u16; 16], own: [u32; 16]) -> Verdict
     ensures { result ≡ with_chain d succ own }
 {
-    let c = chains::longest_chain(succ, own);
-    let chain = c.vertices;
+    let ChainFound {
+        count,
+        vertices: chain,
+        ..
+    } = chains::longest_chain(succ, own);
     Verdict {
         number: d.number,
         place: 0,
         task: d.task,
         margin: d.margin,
-        count: c.count,
+        count,
         chain,
     }
 }
@@ -101,13 +105,12 @@ pub fn figures_of(bytes: &[u8], task: u8) -> Figures
         return no_figures();
     }
     let k = usize::from(task);
-    let len = x.lens[k];
     let due = x.due(k);
     Figures {
         found: true,
         vol: x.vols[k],
-        len,
+        len: x.lens[k],
         due,
-        margin: figuring::margin_from(x.m, x.deadlines[k], len, due),
+        margin: figuring::margin_from(x.m, x.deadlines[k], x.lens[k], due),
     }
 }

@@ -1,7 +1,7 @@
 // What the figures of a table's tasks are made of, and the figures that follow: due and margin. Document 01, "The verdict".
 ghost use Rattle.verdict.specs.Ranges.{InRange};
 
-use crate::{Decided, figuring, walking};
+use crate::{Decided, figuring, searching};
 use table::Table;
 
 // A row of sixteen for each, and no array of tasks: `Findings`, which reports show, takes the rows as they are.
@@ -75,13 +75,13 @@ impl Measures {
     pub(crate) fn dues(&self) -> [u64; 16]
         ensures { (t : Table) → GoodTable t → Holds t self.now → result ≡ up_to t.n (due t) }
     {
-        walking::figures_up_to(self.n, |k| self.due(k))
+        searching::figures_up_to(self.n, |k| self.due(k))
     }
 
     // The verdict on the table, before a chain is looked for.
     pub(crate) fn judged(&self) -> Decided
         ensures { (t : Table) → GoodTable t → Holds t self.now → result ≡ decided (verdict_on t) }
     {
-        walking::judge(self.n, 20, |k| self.margin(k))
+        searching::judge(self.n, 20, |k| self.margin(k))
     }
 }

@@ -1,24 +1,22 @@
 -- Laws of bytes that are put into a buffer part after part, for the writer's code.
 use mathlib.Core.Path.{◌≡◌, refl, sym, ap, ◌∙◌}
-use mathlib.Core.Bool.{Bool, true, false}
 use mathlib.Core.List.{List, [], ◌∷◌, ◌++◌, append_assoc}
 use Prim.Native.Nat.{ℕ, zero, suc, ◌+◌, ◌*◌, ◌-◌, ◌/◌, ◌%◌, ◌≤◌, ◌<◌}
 use native.Mathlib.Omega.{arith}
-use native.Mathlib.Numerals.{add-one}
 use native.Mathlib.Nat.{add-zero, zero-add, sub-zero}
 use lib.ListN.{length, length-drop, get_or, set, take, drop}
 use lib.Seq.{sets, sets-eq, get_or-take, get_or-drop, length-take-le, drop-drop}
 use borrow.Rule.Slice.PartMut.{put_mid}
 use Rattle.std.specs.Int.{w32, to_le_bytes}
-use lib.Dec.{eqb}
-use Rattle.graph.specs.Words.{bit, row_from, row, also_if, those, those_below, members, join_from, in_order}
+use Rattle.graph.specs.Words.{join_from, in_order}
 use Rattle.graph.proofs.Members.{Took}
 use Rattle.table.specs.declared.Table.{Table}
 use Rattle.table.specs.Memory.{task, vertices, D, T, succ, cost}
 use Rattle.table.specs.Writing.{bytes4, edge_bytes, encode_task, encode}
 use Rattle.checks.specs.Checking.{row_keys}
 use Rattle.writer.specs.Putting.{cost_bytes, task_bytes}
-use Rattle.checks.proofs.Keys.{bit_low, bit_up, keys_are}
+use Rattle.checks.proofs.Keys.{keys_are}
+use Rattle.checks.proofs.RowSteps.{row_took}
 use Rattle.checks.proofs.TestLaws.{join_next, join_end, keys_from, keys_next}
 
 -- ---- part after part
@@ -85,49 +83,7 @@ pub four_long : (x : ℕ) → length (bytes4 x) ≡ 4
 unfolding bytes4
 four_long x = refl
 
--- ---- the edges of a vertex, to one member of its set after the other
-keys_in : ℕ → List ℕ → List ℕ
-keys_in u [] = []
-keys_in u (w ∷ l) = (16 * u + w) ∷ keys_in u l
-
-also_key : (u w : ℕ) (l : List ℕ) (b : Bool) → also_if b (16 * u + w) (keys_in u l) ≡ keys_in u (also_if b w l)
-unfolding also_if keys_in
-also_key u w l true = refl
-also_key u w l false = refl
-
-row_from_set : (p : ℕ → Bool) (k u w x : ℕ) → ((j : ℕ) → j < k → p (w + j) ≡ bit x j) → row_keys k u w x ≡ keys_in u (those p (row_from k w (λ j. j)))
-unfolding row_keys those row_from keys_in
-row_from_set p zero u w x h = refl
-row_from_set p (suc k) u w x h =
-    let b : p w ≡ eqb (x % 2) 1 = ap p (sym (add-zero w)) ∙ h 0 (omega arith) ∙ bit_low x in
-    let i = row_from_set p k u (w + 1) (x / 2) (λ j l.
-    let e : w + 1 + j ≡ w + suc j = omega arith in
-    ap p e ∙ h (suc j) (omega arith) ∙ bit_up x j) in
-    ap (λ (c : Bool). also_if c (16 * u + w) (row_keys k u (w + 1) (x / 2))) (sym b)
-    ∙ ap (also_if (p w) (16 * u + w)) (i ∙ ap (λ (n : ℕ). keys_in u (those p (row_from k n (λ j. j)))) (add-one w))
-    ∙ also_key u w (those p (row_from k (suc w) (λ j. j))) (p w)
-
-row_set : (u x : ℕ) → row_keys 16 u 0 x ≡ keys_in u (members x)
-unfolding members those_below row
-row_set u x = row_from_set (bit x) 16 u 0 x (λ j l. ap (bit x) (zero-add j))
-
-row_took : (u x w y : ℕ) → Took x w y → row_keys 16 u 0 x ≡ (16 * u + w) ∷ row_keys 16 u 0 y
-unfolding keys_in
-row_took u x w y t = row_set u x ∙ ap (keys_in u) t.listed ∙ ap (λ (l : List ℕ). (16 * u + w) ∷ l) (sym (row_set u y))
-
-row_even : (k u w x : ℕ) → x % 2 ≡ 0 → row_keys (suc k) u w x ≡ row_keys k u (w + 1) (x / 2)
-unfolding row_keys also_if
-row_even k u w x e = rw e
-
-pub no_bits : (k u w x : ℕ) → x ≡ 0 → row_keys k u w x ≡ []
-unfolding row_keys also_if
-no_bits zero u w x e = refl
-no_bits (suc k) u w x e =
-    let z : x / 2 ≡ 0 = omega arith in
-    let y : x % 2 ≡ 0 = omega arith in
-    row_even k u w x y ∙ no_bits k u (w + 1) (x / 2) z
-
--- and their bytes: those of the edge to the lowest member, and the rest
+-- ---- the bytes of a vertex's edges: those of the edge to the lowest member of its set, and the rest
 pub edge_then : (u x w y : ℕ) → Took x w y → edge_bytes (row_keys 16 u 0 x) ≡ (u ∷ w ∷ []) ++ edge_bytes (row_keys 16 u 0 y)
 unfolding edge_bytes
 edge_then u x w y t =

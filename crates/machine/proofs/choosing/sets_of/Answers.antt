@@ -1,22 +1,11 @@
-use Rattle.std.proofs.Common.{refl, rules}
+use Rattle.std.proofs.Common.{◌%◌, rules}
+use Rattle.graph.specs.Words.{set_of}
 use Rattle.table.specs.Memory.{no_task, task}
-use Rattle.machine.proofs.Sweeping.{swept_none, swept_zeros}
-use Rattle.machine.proofs.Stepping.{swept_next}
-use Rattle.machine.proofs.choosing.sets_of.Invariants.{ready_in}
+use Rattle.slots.specs.Slots.{is_ready}
 use Rattle.machine.proofs.choosing.sets_of.Goals as goal
 
-pub loop-s-init : goal.loop-s-init
-loop-s-init c =
-    let a = c.args in
-    rw (c.into_iter-s-iterator.ensures.into_iter_gives, c.of-s-items.ensures) (swept_none 0 (ready_in a.t.now.tasks a.remaining.now) _ a.live (search rules) refl)
-
-pub loop-s-preserved : goal.loop-s-preserved
-unfolding no_task
-loop-s-preserved c =
-    let l = c.loop-s in
-    let a = c.args in
-    swept_next c.in-Some.ensures.steps 0 (ready_in a.t.now.tasks a.remaining.now) _ _ l.sets l.invariant _ (rw c.from.ensures at c.ready.ensures)
-
 pub returns : goal.returns
-unfolding task
-returns c = let a = c.args in let l = c.loop-s in swept_zeros (ready_in a.t.now.tasks a.remaining.now) _ l.s-iterator.rest l.sets l.invariant c.in-None.ensures.steps.0
+unfolding no_task task
+returns c =
+    let a = c.args in
+    c.at_slots.ensures (λ s. set_of 16 (is_ready (task a.t.now (s % 16)).succ (task a.t.now (s % 16)).v a.remaining.now s)) (λ s r b e. search rules)

@@ -8,7 +8,7 @@ pub loop-s-init : goal.loop-s-init
 loop-s-init c =
     let a = c.args in
     rw (c.into_iter-s-iterator.ensures.into_iter_gives, c.of-s-items.ensures)
-    (closing_none a.over a.going a.deadlines.now a.remaining.now a.work.now c.slots_of-slots.result c.slots_of-slots.ensures (search rules) c.requires.0 c.requires.1 c.requires.2)
+    (closing_none a.over a.going a.deadlines.now a.remaining.now a.work.now c.slots_of-slots.result c.slots_of-slots.ensures (search rules) (search rules) (search rules) (search rules))
 
 pub loop-s-preserved-in-Some-source : goal.loop-s-preserved-in-Some-source
 loop-s-preserved-in-Some-source c =

@@ -3,8 +3,9 @@ use borrow.Author.Rules.{rules}
 use Rattle.graph.proofs.Members.{took}
 use Rattle.table.specs.Writing.{edge_bytes}
 use Rattle.checks.specs.Checking.{row_keys}
+use Rattle.checks.proofs.RowSteps.{no_bits}
 use Rattle.writer.proofs.PenLaws.{begun, went_on, all_put, has_room}
-use Rattle.writer.proofs.PutLaws.{edge_then, no_bits, no_edges}
+use Rattle.writer.proofs.PutLaws.{edge_then, no_edges}
 use Rattle.writer.proofs.writing.Pen.row.Goals as goal
 
 pub loop-w-init : goal.loop-w-init

@@ -1,6 +1,6 @@
 use Rattle.std.proofs.Common.{◌≡◌, min, arith, refl}
 use Rattle.verdict.proofs.Figured.{filled_none, filled_next, filled_room}
-use Rattle.verdict.proofs.walking.figures_up_to.Goals as goal
+use Rattle.verdict.proofs.searching.figures_up_to.Goals as goal
 
 pub loop-k-init : goal.loop-k-init
 loop-k-init g c = λ f h. filled_none refl

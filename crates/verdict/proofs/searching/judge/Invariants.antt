@@ -1,7 +1,7 @@
 -- The loop's invariant: `SoFar`, what the search over the margins has come to.
 use Rattle.std.proofs.Common.{◌≡◌, ℕ, ◌<◌, ℤ, pos}
 use Rattle.verdict.proofs.Walk.{SoFar}
-use Rattle.verdict.proofs.walking.judge.Given as goal
+use Rattle.verdict.proofs.searching.judge.Given as goal
 
 abbrev pub invariant-loop-k : goal.invariant-loop-k
 invariant-loop-k g l =

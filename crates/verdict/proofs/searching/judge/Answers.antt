@@ -3,8 +3,8 @@ use mir.Facts.{to_z-of_z}
 use mir.Syntax.{w64}
 use mir.Val.{SFits}
 use Rattle.verdict.proofs.Walk.{none_yet, at_top, kept, taken, met_negative, all_passed}
-use Rattle.verdict.proofs.walking.judge.Goals as goal
-use Rattle.verdict.proofs.walking.judge.Goals.{then-z-best, else-z-best}
+use Rattle.verdict.proofs.searching.judge.Goals as goal
+use Rattle.verdict.proofs.searching.judge.Goals.{then-z-best, else-z-best}
 
 pub loop-k-init : goal.loop-k-init
 loop-k-init g c = λ z h. none_yet z _

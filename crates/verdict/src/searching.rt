@@ -1,4 +1,4 @@
-// The search that a verdict makes over its margins, whichever margins they are.
+// What both verdicts do with margins and figures, whichever they are: the search for the margin that decides, and the row of a figure.
 ghost use Rattle.std.specs.Prelude.{◌≡◌, ℕ, ◌<◌, min, ℤ};
 ghost use Rattle.verdict.specs.Verdicts.{up_to};
 ghost use Rattle.verdict.specs.Judging.{judged_by};
