@@ -1,8 +1,8 @@
 // A row that is whole, and its fields: document 02, M-100. The definitions are in specs/Rows.antt.
-#![tactic(auto, unfolding(crate::specs::Rows::row_set, crate::specs::Rows::row_count, crate::specs::Rows::row_task, crate::specs::Rows::row_age, crate::specs::Rows::row_vertex, crate::specs::Rows::row_key, crate::specs::Rows::row_end, crate::specs::Rows::row_triple, crate::specs::Rows::cut_short, crate::specs::Rows::wrong_mark, crate::specs::Listing::row_slot))]
+#![tactic(auto, unfolding(crate::specs::Rows::row_set, crate::specs::Rows::row_count, crate::specs::Rows::row_task, crate::specs::Rows::row_age, crate::specs::Rows::row_vertex, crate::specs::Rows::row_key, crate::specs::Rows::row_end, crate::specs::Rows::cut_short, crate::specs::Rows::wrong_mark, crate::specs::Listing::row_slot))]
 
 ghost use Rattle.std.specs.Prelude.{◌≡◌, true, ◌||◌, not, ◌-◌, ◌≤◌, ◌<◌, length, ltb, MatchOption};
-ghost use Rattle.journal.specs.Rows.{row_set, row_count, row_task, row_age, row_vertex, row_key, row_end, row_triple, cut_short, wrong_mark, ascending};
+ghost use Rattle.journal.specs.Rows.{row_set, row_count, row_task, row_age, row_vertex, row_key, row_end, cut_short, wrong_mark, ascending};
 
 // The row that begins at place `at` of a journal. No byte of it lies past the end.
 #[derive(Clone, Copy)]
