@@ -1,3 +1,2 @@
--- The definitions: the checksum and the file of a case, and the loop over the cases.
+-- The definitions: the checksum and the file of a case.
 pub mod Cases
-pub mod Running

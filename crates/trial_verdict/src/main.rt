@@ -61,5 +61,10 @@ fn main(rt: HostRuntime) -> io::Result<()> {
     let mut input = rt.stdin();
     let mut file = CaseFile::new();
     let mut page = [0; SIZED_ROOM];
-    cases::run_cases(|| run_case(&rt, &mut input, &mut file, &mut page))
+    for _ in 0..cases::MOST {
+        if !run_case(&rt, &mut input, &mut file, &mut page)? {
+            break;
+        }
+    }
+    Ok(())
 }

@@ -56,5 +56,10 @@ fn run_case(rt: &impl Print, input: &mut impl Read, buf: &mut [u8]) -> io::Resul
 fn main(rt: HostRuntime) -> io::Result<()> {
     let mut input = rt.stdin();
     let mut buf = [0; SIZED_ROOM];
-    cases::run_cases(|| run_case(&rt, &mut input, &mut buf))
+    for _ in 0..cases::MOST {
+        if !run_case(&rt, &mut input, &mut buf)? {
+            break;
+        }
+    }
+    Ok(())
 }

@@ -71,5 +71,10 @@ fn main(rt: HostRuntime) -> io::Result<()> {
     let mut input = rt.stdin();
     let mut file = CaseFile::new();
     let mut buffer = [0; SIZED_ROOM];
-    cases::run_cases(|| run_case(&rt, &mut input, &mut file, &mut buffer))
+    for _ in 0..cases::MOST {
+        if !run_case(&rt, &mut input, &mut file, &mut buffer)? {
+            break;
+        }
+    }
+    Ok(())
 }
