@@ -8,7 +8,7 @@ use table::{Outcome, Table};
 use verdict::Findings;
 
 // Those of a good table. There are two of these, one here and one in verdict: the rows differ (tails, costs by vertex), and what both share are
-// `judge`, `figures_up_to` and `margin_from` of verdict; a trait over both would have these as its only bodies.
+// the trait `Figuring`, with `judge` and `dues_up_to` over it, and `margin_from` of verdict.
 fn sharp_findings_on(t: &Table) -> Findings
     requires { GoodTable t.now }
     ensures { result ≡ sharp_findings_on t.now }

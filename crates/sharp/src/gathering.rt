@@ -3,11 +3,10 @@ ghost use Rattle.sharp.specs.Ranges.{InRange};
 
 use crate::{closed, putting};
 use table::Table;
-use verdict::Decided;
+use verdict::{Decided, Figuring};
 
 // A row of sixteen for each, beside the table's costs and its tails, and no array of tasks: `Findings`, which reports show, takes the rows as
-// they are. `margin`, `dues` and `judged` are those of verdict's `Measures` over other rows: what both share are `judge`, `figures_up_to` and
-// `margin_from` of verdict; a trait over both would have these as its only bodies.
+// they are. What this shares with verdict's `Measures` is the trait `Figuring`, with `judge` and `dues_up_to` over it, and `margin_from`.
 #[derive(Drop)]
 pub(crate) struct Gathering<'a> {
     pub(crate) m: u8,
@@ -92,7 +91,7 @@ impl<'a> Gathering<'a> {
     pub(crate) fn dues(&self) -> [u64; 16]
         ensures { (t : Table) → GoodTable t → Gathered t self.now → result ≡ up_to t.n (sharp_due t) }
     {
-        verdict::figures_up_to(self.n, |k| self.due(k))
+        verdict::dues_up_to(self.n, self)
     }
 
     // The lowest task whose longest chain exceeds its deadline.
@@ -113,6 +112,32 @@ impl<'a> Gathering<'a> {
                 margin: self.margin(k),
             };
         }
-        verdict::judge(self.n, 23, |k| self.margin(k))
+        verdict::judge(self.n, 23, self)
+    }
+}
+
+impl Figuring for Gathering<'_> {
+    ghost use Rattle.std.specs.Prelude.{ltb, pos};
+    ghost use Rattle.graph.specs.Words.{pick};
+    ghost use Rattle.sharp.specs.Gathered.{due_in, margin_in};
+
+    ghost margin_of = { λ x k. pick (ltb k x.n) (margin_in x k) (pos 0) };
+
+    ghost due_of = { λ x k. pick (ltb k x.n) (due_in x k) 0 };
+
+    fn margin_at(&self, k: usize) -> i64 {
+        if k < usize::from(self.n) {
+            self.margin(k)
+        } else {
+            0
+        }
+    }
+
+    fn due_at(&self, k: usize) -> u64 {
+        if k < usize::from(self.n) {
+            self.due(k)
+        } else {
+            0
+        }
     }
 }

@@ -1,5 +1,5 @@
 -- For each public function: any two results that its contract allows are equal. The contract is the one that the checker reads from the source.
-use mathlib.Core.Path.{◌≡◌, sym, ◌∙◌}
+use mathlib.Core.Path.{◌≡◌, refl, sym, ◌∙◌}
 use Prim.Native.Nat.{ℕ, ◌<◌, min}
 use lib.IntN.{ℤ}
 use contract.Lifetimes.{Lfts}
@@ -32,12 +32,11 @@ use Rattle.verdict.proofs.finding.no_findings.Kinds as no-findings-kinds
 use Rattle.verdict.proofs.finding.no_findings.Reads as no-findings-reads
 use Rattle.verdict.proofs.figuring.margin_from.Kinds as margin-from-kinds
 use Rattle.verdict.proofs.figuring.margin_from.Reads as margin-from-reads
-use Rattle.verdict.specs.contracts.searching.judge.F-Fn as judge-fn
+use Rattle.verdict.specs.declared.searching.Figuring as Figuring
 use Rattle.verdict.proofs.searching.judge.Kinds as judge-kinds
 use Rattle.verdict.proofs.searching.judge.Reads as judge-reads
-use Rattle.verdict.specs.contracts.searching.figures_up_to.F-Fn as figures-up-to-fn
-use Rattle.verdict.proofs.searching.figures_up_to.Kinds as figures-up-to-kinds
-use Rattle.verdict.proofs.searching.figures_up_to.Reads as figures-up-to-reads
+use Rattle.verdict.proofs.searching.dues_up_to.Kinds as dues-up-to-kinds
+use Rattle.verdict.proofs.searching.dues_up_to.Reads as dues-up-to-reads
 
 pub verdict_of_one : OneResult 1 verdict-of-kinds.ps verdict-of-kinds.r verdict-of-reads.Post
 verdict_of_one κs args x y s t = by_definition
@@ -72,22 +71,15 @@ total_of_one κs args x y s t = by_definition
 pub no_findings_one : OneResult 0 no-findings-kinds.ps no-findings-kinds.r no-findings-reads.Post
 no_findings_one κs args x y s t = by_definition
 
--- two results that are each what a definition gives of every function that a closure is, for a closure that is some function
-by_function {ℓ} : {X A : Type 0} {Is : A → Type ℓ} {defined : A → X} {r s : X} (z : A) → Is z
-    → ((z : A) → Is z → r ≡ defined z) → ((z : A) → Is z → s ≡ defined z) → r ≡ s
-by_function z is h k = h z is ∙ sym (k z is)
-
--- the search, and the row: of a closure whose call has one result at each argument, z
-pub judge_one : (F : RattleType) (laws : Laws F) (calls : judge-fn.Ghosts F) (d e f g : Dict) (κs : Lfts 1)
+-- the search, and the row: of any figures
+pub judge_one : (F : RattleType) (laws : Laws F) (figures : Figuring.Ghosts F.Denot) (d : Dict) (κs : Lfts 2)
     (args : Dens κs (judge-kinds.ps F laws)) (x y : (res_t (judge-kinds.r F laws) κs).Denot)
-    (s t : AtExit (ended_of 1 (judge-kinds.ps F laws) (judge-kinds.r F laws)) κs)
-    → (z : ℕ → ℤ) → ((k : ℕ) (r : ℤ) → k < args.0 → (judge-fn.words F calls).post args.1.1.0 k r → r ≡ z k)
-    → judge-reads.Post F laws calls d e f g κs args x s → judge-reads.Post F laws calls d e f g κs args y t → x ≡ y
-judge_one F laws calls d e f g κs args x y s t z is h k = by_function z is h k
+    (s t : AtExit (ended_of 2 (judge-kinds.ps F laws) (judge-kinds.r F laws)) κs)
+    → judge-reads.Post F laws figures d κs args x s → judge-reads.Post F laws figures d κs args y t → x ≡ y
+judge_one F laws figures d κs args x y s t h k = h (figures.margin_of args.1.1.0.now) (λ _ _. refl) ∙ sym (k (figures.margin_of args.1.1.0.now) (λ _ _. refl))
 
-pub figures_up_to_one : (F : RattleType) (laws : Laws F) (calls : figures-up-to-fn.Ghosts F) (d e f g : Dict) (κs : Lfts 1)
-    (args : Dens κs (figures-up-to-kinds.ps F laws)) (x y : (res_t (figures-up-to-kinds.r F laws) κs).Denot)
-    (s t : AtExit (ended_of 1 (figures-up-to-kinds.ps F laws) (figures-up-to-kinds.r F laws)) κs)
-    → (z : ℕ → ℕ) → ((k r : ℕ) → k < min args.0 16 → (figures-up-to-fn.words F calls).post args.1.0 k r → r ≡ z k)
-    → figures-up-to-reads.Post F laws calls d e f g κs args x s → figures-up-to-reads.Post F laws calls d e f g κs args y t → x ≡ y
-figures_up_to_one F laws calls d e f g κs args x y s t z is h k = by_function z is h k
+pub dues_up_to_one : (F : RattleType) (laws : Laws F) (figures : Figuring.Ghosts F.Denot) (d : Dict) (κs : Lfts 2)
+    (args : Dens κs (dues-up-to-kinds.ps F laws)) (x y : (res_t (dues-up-to-kinds.r F laws) κs).Denot)
+    (s t : AtExit (ended_of 2 (dues-up-to-kinds.ps F laws) (dues-up-to-kinds.r F laws)) κs)
+    → dues-up-to-reads.Post F laws figures d κs args x s → dues-up-to-reads.Post F laws figures d κs args y t → x ≡ y
+dues_up_to_one F laws figures d κs args x y s t h k = h (figures.due_of args.1.0.now) (λ _ _. refl) ∙ sym (k (figures.due_of args.1.0.now) (λ _ _. refl))

@@ -1,6 +1,7 @@
 // What the figures of a table's tasks are made of, and the figures that follow: due and margin. Document 01, "The verdict".
 ghost use Rattle.verdict.specs.Ranges.{InRange};
 
+use crate::searching::Figuring;
 use crate::{Decided, figuring, searching};
 use table::Table;
 
@@ -75,13 +76,39 @@ impl Measures {
     pub(crate) fn dues(&self) -> [u64; 16]
         ensures { (t : Table) → GoodTable t → Holds t self.now → result ≡ up_to t.n (due t) }
     {
-        searching::figures_up_to(self.n, |k| self.due(k))
+        searching::dues_up_to(self.n, self)
     }
 
     // The verdict on the table, before a chain is looked for.
     pub(crate) fn judged(&self) -> Decided
         ensures { (t : Table) → GoodTable t → Holds t self.now → result ≡ decided (verdict_on t) }
     {
-        searching::judge(self.n, 20, |k| self.margin(k))
+        searching::judge(self.n, 20, self)
+    }
+}
+
+impl Figuring for Measures {
+    ghost use Rattle.std.specs.Prelude.{ltb, pos};
+    ghost use Rattle.graph.specs.Words.{pick};
+    ghost use Rattle.verdict.specs.Measured.{due_in, margin_in};
+
+    ghost margin_of = { λ x k. pick (ltb k x.n) (margin_in x k) (pos 0) };
+
+    ghost due_of = { λ x k. pick (ltb k x.n) (due_in x k) 0 };
+
+    fn margin_at(&self, k: usize) -> i64 {
+        if k < usize::from(self.n) {
+            self.margin(k)
+        } else {
+            0
+        }
+    }
+
+    fn due_at(&self, k: usize) -> u64 {
+        if k < usize::from(self.n) {
+            self.due(k)
+        } else {
+            0
+        }
     }
 }

@@ -1,4 +1,4 @@
-use Rattle.std.proofs.Common.{◌≡◌, ℕ, ◌∙◌, subst, arith, to_z, of_z}
+use Rattle.std.proofs.Common.{◌≡◌, ℕ, ap, ◌∙◌, arith, to_z, of_z}
 use mir.Facts.{to_z-of_z}
 use mir.Syntax.{w64}
 use mir.Val.{SFits}
@@ -11,20 +11,20 @@ loop-k-init g c = λ z h. none_yet z _
 
 pub returns-then-z-lt0 : goal.returns-then-z-lt0
 returns-then-z-lt0 g c = λ z h.
-    let r = c.margin-z in
+    let r = c.margin_at-z in
     let f : SFits w64 r.result = record { sfits = r.type_inv } in
     let k = c.loop-k.k in
-    let its = to_z-of_z f ∙ h k r.result (omega arith) (subst (λ (x : ℕ). g.F.Fn.post c.args.margin (x, tt) r.result) c.from.ensures r.ensures) in
+    let its = to_z-of_z f ∙ (r.ensures ∙ ap (λ (x : ℕ). g.F.Figuring.margin_of c.args.figures.now x) c.from.ensures ∙ h k (omega arith)) in
     met_negative z _ c.args.n k _ _ (omega arith) (c.loop-k.invariant z h) _ its c.args.number c.if-z-lt0.true
 
 pub loop-k-preserved : goal.loop-k-preserved
 loop-k-preserved g c = λ z h.
-    let r = c.margin-z in
+    let r = c.margin_at-z in
     let f : SFits w64 r.result = record { sfits = r.type_inv } in
     let k = c.loop-k.k in
     let bits = to_z-of_z f in
     let its : to_z w64 (of_z w64 r.result) ≡ z k =
-    bits ∙ h k r.result (omega arith) (subst (λ (x : ℕ). g.F.Fn.post c.args.margin (x, tt) r.result) c.from.ensures r.ensures) in
+    bits ∙ (r.ensures ∙ ap (λ (x : ℕ). g.F.Figuring.margin_of c.args.figures.now x) c.from.ensures ∙ h k (omega arith)) in
     elim c.if-z-best.branch [
       | then-z-best w ↦ rw (w.task-is, w.best-is) (taken z _ c.args.n k _ _ (omega arith) (c.loop-k.invariant z h) _ its c.if-z-lt0.false w.if-z-best.true)
       | else-z-best w ↦ rw (w.task-is, w.best-is)

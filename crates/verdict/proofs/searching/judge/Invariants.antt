@@ -5,4 +5,4 @@ use Rattle.verdict.proofs.searching.judge.Given as goal
 
 abbrev pub invariant-loop-k : goal.invariant-loop-k
 invariant-loop-k g l =
-    (z : ℕ → ℤ) → ((k : ℕ) (r : ℤ) → k < l.n → goal.F-post g l.margin k r → r ≡ z k) → SoFar z (pos 9223372036854775807) l.k l.task l.best
+    (z : ℕ → ℤ) → ((k : ℕ) → k < l.n → g.F.Figuring.margin_of l.figures k ≡ z k) → SoFar z (pos 9223372036854775807) l.k l.task l.best

@@ -1,4 +1,6 @@
-use Rattle.std.proofs.Common.{◌≡◌, ℕ, ap, ◌∙◌, arith, rules}
+use Rattle.std.proofs.Common.{◌≡◌, ℕ, ap, ◌∙◌, arith, rules, pos}
+use borrow.Author.Tests.{lt-ltb}
+use Rattle.graph.specs.Words.{pick}
 use mir.Facts.{to_z-of_z}
 use mir.Syntax.{w64}
 use mir.Val.{SFits}
@@ -19,8 +21,6 @@ pub returns : goal.returns
 returns c = λ t g h.
     let x = c.args.self.now in
     c.judge.ensures (sharp_margin t)
-    (λ k r b p.
-    let e : r ≡ margin_in x k = search rules in
-    e ∙ held_margin t g x h k (omega (arith, h.n_is)))
+    (λ k b. ap (λ c. pick c (margin_in x k) (pos 0)) (lt-ltb k x.n b) ∙ held_margin t g x h k (omega (arith, h.n_is)))
     ∙ ap (λ (n : ℕ). judged_by n 23 (sharp_margin t)) h.n_is
     ∙ decided_by t g x h c.in_default.ensures
