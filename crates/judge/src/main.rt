@@ -60,7 +60,8 @@ fn ruling_on(input: &mut impl Read, file: &[u8]) -> io::Result<Ruling> {
 fn main(rt: HostRuntime) -> io::Result<()> {
     let mut input = rt.stdin();
     let mut table = [0; FILE_ROOM];
-    let n = streams::read_sized(&mut input, &mut table)?.unwrap_or(0);
+    let length = lines::set_of(streams::next_padded(&mut input)?);
+    let n = streams::read_front(&mut input, &mut table, usize::from(length))?;
     let ruling = ruling_on(&mut input, &table[..n])?;
     rt.write_all(lines::ruling_line(ruling).text())
 }

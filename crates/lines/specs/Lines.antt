@@ -12,7 +12,7 @@ use Rattle.machine.specs.declared.Reply.{Reply}
 use Rattle.machine.specs.declared.Triple.{Triple}
 use Rattle.machine.specs.declared.Answer.{Answer}
 use Rattle.text.specs.declared.page.Page.{Page}
-use Rattle.text.specs.Page.{written}
+use Rattle.text.specs.Written.{written}
 
 -- OPENING. "refuse NUMBER at PLACE": reading's
 unfoldable pub refuse_line : Outcome → List ℕ

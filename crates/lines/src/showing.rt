@@ -5,7 +5,8 @@ ghost use Rattle.lines.specs.Watching.{number2, number4, shown_opening, shown_ti
 use crate::{Shown, opening, ticking};
 use machine::State;
 
-// A table's length or a release set: two bytes, the lower first. Public, as clock_of: a call of std's each, of two sizes.
+// A table's length or a release set: two bytes, the lower first. As clock_of: a call of std's each, of two sizes, under the definitions by which
+// `watched` takes an input apart; the programs watch, judge and trial_watch read by them.
 pub fn set_of(b: [u8; 2]) -> u16
     ensures { result ≡ number2 b }
 {

@@ -42,5 +42,7 @@ pub fn quick(bytes: &[u8]) -> bool
     let Outcome::Read = o else {
         return false;
     };
-    quick_on(&l.table)
+    // Taken out here and not lent where it was read: so a refused file's table is not copied.
+    let t = l.table;
+    quick_on(&t)
 }

@@ -105,6 +105,18 @@ unfolding findings_on
 old_read t = refl
 
 module _ (s : List ℕ) (f : Findings) (h : f ≡ findings s) where
+  -- its outcome is that of reading; where that is success the table is good, and what was found is found on it
+  pub its_outcome : f.outcome ≡ (read s).outcome
+  unfolding findings findings_read
+  its_outcome = outcome_is findings_on (report_on figures_on verdict_on) old_read old_printable old_lines s f h
+
+  pub found_good : f.outcome ≡ Read → GoodTable (read s).table
+  found_good e = read_good s (sym its_outcome ∙ e)
+
+  pub found_read : f.outcome ≡ Read → f ≡ findings_on (read s).table
+  unfolding findings findings_read
+  found_read e = found findings_on (report_on figures_on verdict_on) old_read old_printable old_lines s f h (sym its_outcome ∙ e)
+
   pub old_ready : f.outcome ≡ Read → Printable f
   unfolding findings findings_read
   old_ready = file_ready findings_on (report_on figures_on verdict_on) old_read old_printable old_lines s f h

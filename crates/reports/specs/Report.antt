@@ -12,7 +12,7 @@ use Rattle.verdict.specs.declared.Figures.{Figures}
 use Rattle.verdict.specs.Verdicts.{verdict_on, figures_on}
 use Rattle.sharp.specs.Sharp.{sharp_on, sharp_figures_on}
 use Rattle.text.specs.declared.page.Page.{Page}
-use Rattle.text.specs.Page.{written}
+use Rattle.text.specs.Written.{written}
 
 -- "processors 2 tasks 2"
 unfoldable pub head_line : ℕ → ℕ → List ℕ

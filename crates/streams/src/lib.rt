@@ -43,7 +43,7 @@ pub fn read_front<R: Read>(input: &mut R, buf: &mut [u8], n: usize) -> io::Resul
 }
 
 // The next N bytes, if the input has as many.
-fn next_bytes<R: Read, const N: usize>(input: &mut R) -> io::Result<Option<[u8; N]>>
+pub fn next_bytes<R: Read, const N: usize>(input: &mut R) -> io::Result<Option<[u8; N]>>
     ensures { IfOk result (λ found. NextBytes (R.remaining input.old) (R.remaining input.new) N found) }
 {
     let mut bytes = [0; N];

@@ -5,9 +5,10 @@ use mathlib.Core.List.{List, [], ◌∷◌, ◌++◌}
 use Prim.Native.Nat.{ℕ, ◌+◌, ◌-◌, ◌^◌, ◌≤◌, ◌<◌, min}
 use native.Mathlib.Omega.{arith}
 use native.Mathlib.Nat.{sub-zero}
+use native.Mathlib.Numerals.{add-one}
 use lib.Dec.{ltb}
-use lib.ListN.{length, get_or, take, drop, length-append, length-take, length-drop, get_or-append}
-use lib.Seq.{ext_get_or, get_or-append-add, get_or-take, get_or-drop}
+use lib.ListN.{length, get_or, take, drop, set, length-append, length-take, length-drop, length-set, get_or-append}
+use lib.Seq.{ext_get_or, get_or-append-add, get_or-take, get_or-drop, get_or-set_same, get_or-set_other, take-suc}
 use borrow.Author.Tests.{ltb-true, ltb-false, lt-ltb, le-ltb, le-leb, lt-leb}
 use Rattle.std.proofs.lemmas.List.{get_or_append_left, get_or-append_right}
 use Rattle.graph.specs.Words.{pick}
@@ -124,6 +125,28 @@ laid_cut buf at n l o = same_bytes buf (laid buf at (take n l)) (laid buf at l) 
     go k h (inside i j) =
         laid_inside buf at (take n l) k h i (omega (arith, short)) ∙ get_or-take n l (k - at) 0 (omega arith) ∙ sym (laid_inside buf at l k h i j)
     go k h (after i) = laid_after buf at (take n l) k h (omega (arith, short)) ∙ sym (laid_after buf at l k h i)
+
+-- ---- one byte
+pub laid_one : (buf : List ℕ) (at b : ℕ) → at < length buf → laid buf at (b ∷ []) ≡ set buf at b
+laid_one buf at b o = same_bytes buf (laid buf at (b ∷ [])) (set buf at b) (length_laid buf at (b ∷ [])) (length-set buf at b)
+    (λ k h. go k h (where_is at 1 k))
+  where
+    go : (k : ℕ) → k < length buf → Where at 1 k → get_or (laid buf at (b ∷ [])) k 0 ≡ get_or (set buf at b) k 0
+    go k h (before i) = laid_before buf at (b ∷ []) k h i ∙ sym (get_or-set_other buf at k b 0 (λ e. omega arith))
+    go k h (inside i j) =
+        let e : k ≡ at = omega arith in
+        let z : k - at ≡ 0 = omega arith in
+        laid_inside buf at (b ∷ []) k h i j ∙ ap (λ (p : ℕ). get_or (b ∷ []) p 0) z ∙ sym (get_or-set_same buf at b 0 o) ∙ sym (ap (λ (p : ℕ). get_or (set buf at b) p 0) e)
+    go k h (after i) = laid_after buf at (b ∷ []) k h i ∙ sym (get_or-set_other buf at k b 0 (λ e. omega arith))
+
+-- ---- byte by byte: the first i of a list are laid, then i + 1
+pub laid_more : (buf : List ℕ) (at : ℕ) (l : List ℕ) (i : ℕ) → i < length l → at + i < length buf
+    → set (laid buf at (take i l)) (at + i) (get_or l i 0) ≡ laid buf at (take (i + 1) l)
+laid_more buf at l i h o =
+    let e : i ≡ length (take i l) = omega (arith, length-take i l) in
+    sym (laid_one (laid buf at (take i l)) (at + i) (get_or l i 0) (omega (arith, length_laid buf at (take i l))))
+    ∙ ap (λ (k : ℕ). laid (laid buf at (take i l)) (at + k) (get_or l i 0 ∷ [])) e ∙ laid_then buf at (take i l) (get_or l i 0 ∷ [])
+    ∙ ap (laid buf at) (sym (take-suc l i 0 h)) ∙ ap (λ (k : ℕ). laid buf at (take k l)) (sym (add-one i))
 
 -- ---- a byte, then a list from the next place on: where that place would be no number of 64 bits, nothing of either falls inside
 pub one_then : (buf : List ℕ) (at b next : ℕ) (l mid : List ℕ) → mid ≡ laid buf at (b ∷ []) → next ≡ min (at + 1) (2 ^ 64 - 1) → length buf < 2 ^ 64

@@ -11,7 +11,8 @@ use borrow.Author.Tests.{ltb-true, ltb-false}
 use Rattle.graph.specs.Words.{in_order}
 use Rattle.text.specs.declared.page.Page.{Page}
 use Rattle.text.specs.Laid.{laid}
-use Rattle.text.specs.Page.{blank, Adds, written}
+use Rattle.text.specs.Page.{blank, Adds}
+use Rattle.text.specs.Written.{written}
 use Rattle.text.proofs.Laying.{length_laid, laid_none, laid_then, laid_outside, laid_cut}
 use Rattle.text.proofs.Putting.{zeros_behind, none_before, one_more_lem}
 

@@ -1,5 +1,5 @@
--- A page of n bytes: text put on it, part behind part.
-use Rattle.std.specs.Prelude.{◌≡◌, List, ℕ, ◌+◌, ◌-◌, ◌++◌, min, length, replicate}
+-- How a page of n bytes is filled: text put on it, part behind part.
+use Rattle.std.specs.Prelude.{◌≡◌, List, ℕ, ◌+◌, ◌-◌, min, length, replicate}
 use Rattle.text.specs.Laid.{laid}
 use Rattle.text.specs.declared.page.Page.{Page}
 
@@ -11,7 +11,3 @@ blank n = record { bytes = replicate n 0; len = 0 }
 pub record Adds {n : ℕ} (old new : Page n) (words : List ℕ) : Type 0 where
   pub bytes : new.bytes ≡ laid old.bytes old.len words
   pub len : new.len ≡ old.len + min (length words) (length old.bytes - old.len)
-
--- with a text at its front, zeros behind it, and its length: what is on a page that began blank, if the text fits
-unfoldable pub written : (n : ℕ) → List ℕ → Page n
-written n words = record { bytes = words ++ replicate (n - length words) 0; len = length words }

@@ -2,6 +2,8 @@
 // line a case: number, place, and a checksum of the table. The second program wrote both the cases and what is expected.
 #![tactic(auto)]
 
+ghost use Rattle.std.specs.Prelude.{◌<◌};
+
 use cases::Checksum;
 use std::hash::Hasher;
 use std::io;
@@ -19,8 +21,17 @@ fn add_task(sum: &mut Checksum, t: Task) {
     }
 }
 
-// The checksum of a table.
-fn sum_of(t: Table) -> u64 {
+// A checksum's number, of 32 bits: a function, since a loop does not say of what it leaves how large it is.
+fn number_of(sum: Checksum) -> u64
+    ensures { result < 4294967296 }
+{
+    sum.finish()
+}
+
+// The checksum of a table, of 32 bits.
+fn sum_of(t: Table) -> u64
+    ensures { result < 4294967296 }
+{
     let mut sum = Checksum::new();
     sum.write_u8(t.m);
     sum.write_u8(t.n);
@@ -30,7 +41,7 @@ fn sum_of(t: Table) -> u64 {
     for cost in t.costs {
         sum.write_u32(cost);
     }
-    sum.finish()
+    number_of(sum)
 }
 
 // The line of a case.

@@ -20,7 +20,7 @@ fn first<const N: usize>(input: &[u8]) -> ([u8; N], &[u8]) {
 fn add_ticks(sum: &mut Checksum, table: &[u8], opened: State, releases: &[[u8; 2]]) {
     let mut state = opened;
     for set in releases {
-        let shown = lines::show_tick(table, state, u16::from_le_bytes(*set));
+        let shown = lines::show_tick(table, state, lines::set_of(*set));
         sum.write(shown.line.text());
         state = shown.state;
     }
@@ -29,11 +29,11 @@ fn add_ticks(sum: &mut Checksum, table: &[u8], opened: State, releases: &[[u8; 2
 // The line of a run.
 fn answer(rt: &impl Print, input: &[u8]) -> io::Result<()> {
     let (length, rest) = first(input);
-    let length = usize::from(u16::from_le_bytes(length));
+    let length = usize::from(lines::set_of(length));
     let (table, rest) = rest.split_at(length.min(rest.len()));
     let (clock, rest) = first(rest);
     let (releases, _) = rest.as_chunks::<2>();
-    let opening = lines::show_opening(table, u32::from_le_bytes(clock));
+    let opening = lines::show_opening(table, lines::clock_of(clock));
     let mut sum = Checksum::new();
     sum.write(opening.line.text());
     let mut count = 1;
@@ -46,9 +46,10 @@ fn answer(rt: &impl Print, input: &[u8]) -> io::Result<()> {
 
 // One run; false where the input ends. As in trial_read, which says why there are two.
 fn run_case(rt: &impl Print, input: &mut impl Read, buf: &mut [u8]) -> io::Result<bool> {
-    let Some(n) = streams::read_sized(input, buf)? else {
+    let Some(head) = streams::next_bytes(input)? else {
         return Ok(false);
     };
+    let n = streams::read_front(input, buf, usize::from(lines::set_of(head)))?;
     answer(rt, &buf[..n])?;
     Ok(true)
 }

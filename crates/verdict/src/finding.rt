@@ -60,5 +60,7 @@ pub fn findings_of(bytes: &[u8]) -> Findings
     let Outcome::Read = o else {
         return no_findings(o);
     };
-    findings_on(&l.table)
+    // Taken out here and not lent where it was read: so a refused file's table is not copied.
+    let t = l.table;
+    findings_on(&t)
 }

@@ -75,7 +75,9 @@ pub fn verdict_of(bytes: &[u8]) -> Verdict
     let Outcome::Read = o else {
         return unread(o);
     };
-    verdict_on(&l.table)
+    // Taken out here and not lent where it was read: so a refused file's table is not copied.
+    let t = l.table;
+    verdict_on(&t)
 }
 
 // None: zeros beside the flag, as the definition of the same name has them.

@@ -11,10 +11,10 @@ use streams::FILE_ROOM;
 fn run(rt: &impl Print, input: &mut impl Read, table: &[u8], opened: State) -> io::Result<()> {
     let mut state = opened;
     for _ in 0..u64::MAX {
-        let Some(releases) = streams::next_u16(input)? else {
+        let Some(releases) = streams::next_bytes(input)? else {
             break;
         };
-        let shown = lines::show_tick(table, state, releases);
+        let shown = lines::show_tick(table, state, lines::set_of(releases));
         rt.write_all(shown.line.text())?;
         state = shown.state;
     }
@@ -33,12 +33,13 @@ fn watch(rt: &impl Print, input: &mut impl Read, table: &[u8], clock: u32) -> io
 }
 
 // The table's bytes, as many as there are of its length, of a longer table the first 5,061, which give the same lines (`run_prefix`,
-// the crate lines); then the clock, whose missing bytes stay 0. What a longer table has behind its room is not passed over: the table
+// the crate lines); then the clock. Missing bytes of either number stay 0. What a longer table has behind its room is not passed over: the table
 // is refused, and nothing of what follows is shown.
 fn main(rt: HostRuntime) -> io::Result<()> {
     let mut input = rt.stdin();
     let mut table = [0; FILE_ROOM];
-    let n = streams::read_sized(&mut input, &mut table)?.unwrap_or(0);
-    let clock = u32::from_le_bytes(streams::next_padded(&mut input)?);
+    let length = lines::set_of(streams::next_padded(&mut input)?);
+    let n = streams::read_front(&mut input, &mut table, usize::from(length))?;
+    let clock = lines::clock_of(streams::next_padded(&mut input)?);
     watch(&rt, &mut input, &table[..n], clock)
 }
