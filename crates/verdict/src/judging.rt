@@ -102,7 +102,8 @@ pub fn figures_of(bytes: &[u8], task: u8) -> Figures
     let Outcome::Read = o else {
         return no_figures();
     };
-    let x = Measures::of(&l.table);
+    let t = l.table;
+    let x = Measures::of(&t);
     if x.n <= task {
         return no_figures();
     }
